@@ -1,0 +1,36 @@
+-- How a call's definition is gone down, row by row: a check that holds or not, a name that was taken apart or refused, a slot that was found or not.
+use mathlib.Core.Bool.{Bool, true, false}
+use mathlib.Core.Path.{_≡_}
+use Prim.Native.Nat.{ℕ}
+use Rattle.layout.specs.declared.Name.{Name}
+use Rattle.layout.specs.declared.Name.the-variants.{Is, Refused}
+use Rattle.layout.specs.declared.Found.{Found}
+use Rattle.layout.specs.declared.Found.the-variants.{At, Nothing}
+use Rattle.layout.specs.Basics.{check}
+use Rattle.layout.specs.Directory.{found}
+use Rattle.layout.specs.Names.{nameByte, named}
+
+module _ {A : Type 0} where
+  pub check-yes : (b : Bool) (answer : A) (rest : Unit {0} → A) → b ≡ true → check b answer rest ≡ answer
+  unfolding check
+  check-yes b answer rest e = rw (e, check)
+
+  pub check-no : (b : Bool) (answer : A) (rest : Unit {0} → A) → b ≡ false → check b answer rest ≡ rest tt
+  unfolding check
+  check-no b answer rest e = rw (e, check)
+
+  pub named-is : (n : Name) (refusal : ℕ → A) (rest : (ℕ → ℕ) → A) {a e : ℕ} → n ≡ Is a e → named n refusal rest ≡ rest (nameByte a e)
+  unfolding named
+  named-is n refusal rest p = rw (p, named)
+
+  pub named-refused : (n : Name) (refusal : ℕ → A) (rest : (ℕ → ℕ) → A) {status : ℕ} → n ≡ Refused status → named n refusal rest ≡ refusal status
+  unfolding named
+  named-refused n refusal rest p = rw (p, named)
+
+  pub found-at : (f : Found) (missing : A) (rest : ℕ → A) {s : ℕ} → f ≡ At s → found f missing rest ≡ rest s
+  unfolding found
+  found-at f missing rest p = rw (p, found)
+
+  pub found-nothing : (f : Found) (missing : A) (rest : ℕ → A) → f ≡ Nothing → found f missing rest ≡ missing
+  unfolding found
+  found-nothing f missing rest p = rw (p, found)

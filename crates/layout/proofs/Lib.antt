@@ -1,0 +1,6 @@
+pub mod Logic
+pub mod Search
+pub mod Update
+pub mod Data
+pub mod Check
+pub mod Image

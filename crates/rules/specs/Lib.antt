@@ -1,0 +1,11 @@
+pub mod Get
+pub mod Put
+pub mod Commands
+pub mod Cio
+pub mod Recovery
+pub mod Sectors
+pub mod Showing
+pub mod Thin
+pub mod Sound
+pub mod Demand
+pub mod Examples
