@@ -4,3 +4,4 @@ pub mod Update
 pub mod Data
 pub mod Check
 pub mod Image
+pub mod Channels

@@ -1,12 +1,13 @@
 -- Searches and tests over a range of numbers: the steps of a loop that counts up, and what the result says.
 use mathlib.Core.Bool.{Bool, true, false, _&&_, _||_, true≢false}
+use mathlib.Core.Logic.{_⊎_, inl, inr}
 use mathlib.Core.Path.{_≡_, refl, sym, _∙_}
 use Prim.Native.Nat.{ℕ, suc, zero, _+_, _-_, _≤_, _<_}
 use native.Mathlib.Decide.{ℕ-discrete, decLt}
 use native.Mathlib.Numerals.{add-one}
 use native.Mathlib.Omega.{arith}
 use Rattle.layout.specs.Basics.{firstFrom, allBelow, anyBelow}
-use Rattle.layout.proofs.Logic.{and-left, and-right, and-both, and-no, or-right, or-no}
+use Rattle.layout.proofs.Logic.{and-left, and-right, and-both, and-no, or-cases, or-right, or-no}
 
 module _ (p : ℕ → Bool) where
   -- the search has passed everything below k: it is at its end, stops at k, or goes on behind k
@@ -134,3 +135,12 @@ module _ (p : ℕ → Bool) where
       pick : Dec (k ≡ n) → (k < n → p k ≡ false) → p n ≡ false → p k ≡ false
       pick (yes d) r e = rw d e
       pick (no d) r e = r (omega arith)
+
+  pub any-some : (n : ℕ) → anyBelow n p ≡ true → (k : ℕ) × (k < n) × (p k ≡ true)
+  unfolding anyBelow
+  any-some zero e = absurd (true≢false (sym e))
+  any-some (suc n) e = pick (or-cases (p n) (anyBelow n p) e) (any-some n)
+    where
+      pick : (p n ≡ true) ⊎ (anyBelow n p ≡ true) → (anyBelow n p ≡ true → (k : ℕ) × (k < n) × (p k ≡ true)) → (k : ℕ) × (k < suc n) × (p k ≡ true)
+      pick (inl q) r = (n, omega arith, q)
+      pick (inr q) r = let (k, l, h) = r q in (k, omega arith, h)
