@@ -5,3 +5,8 @@ pub mod Data
 pub mod Check
 pub mod Image
 pub mod Channels
+pub mod Bits
+pub mod Map
+pub mod Good
+pub mod Members
+pub mod MapAll
