@@ -1,0 +1,63 @@
+// Slots that are held, and the slot that a new file takes.
+use super::table::held_by_channel;
+use image::slot::flag;
+use layout::Found;
+use layout::Table;
+ghost use mathlib.Core.Path.{_≡_};
+ghost use Prim.Native.Nat.{_<_};
+ghost use lib.ListN.{length};
+ghost use Rattle.layout.specs.Image.{single, view};
+ghost use Rattle.layout.specs.Directory.{deleted, output};
+ghost use Rattle.layout.specs.Channels.{held, vacant, newSlot};
+ghost use Rattle.channels.specs.Below.{Below};
+
+// $80 deleted.
+pub fn deleted(f: u8) -> bool
+    ensures { λ r. ⌜ r ≡ deleted f ⌝ }
+{
+    f / 128 % 2 == 1
+}
+
+// $01 open for output.
+pub fn output(f: u8) -> bool
+    ensures { λ r. ⌜ r ≡ output f ⌝ }
+{
+    f % 2 == 1
+}
+
+// A channel holds its slot; a slot with flag $01 is held too.
+pub fn held(image: &[u8], t: Table, s: u16) -> bool
+    requires { ⌜ (length (now image) ≡ 92160) × (s < 64) ⌝ }
+    ensures { λ r. ⌜ r ≡ held (view single (now (image .entry))) t s ⌝ }
+{
+    let f = flag(image, s);
+    held_by_channel(t, s) | output(f)
+}
+
+// A slot that a new file may take: deleted or zero, and held by no channel.
+pub fn vacant(image: &[u8], t: Table, s: u16) -> bool
+    requires { ⌜ (length (now image) ≡ 92160) × (s < 64) ⌝ }
+    ensures { λ r. ⌜ r ≡ vacant (view single (now (image .entry))) t s ⌝ }
+{
+    let f = flag(image, s);
+    let unused = (f == 0) | deleted(f);
+    if !unused {
+        return false;
+    }
+    !held_by_channel(t, s)
+}
+
+// The lowest such slot.
+pub fn new_slot(image: &[u8], t: Table) -> Found
+    requires { ⌜ length (now image) ≡ 92160 ⌝ }
+    ensures { λ r. ⌜ (r ≡ newSlot (view single (now (image .entry))) t) × Below r ⌝ }
+{
+    let mut s: u16 = 0;
+    while s < 64 {
+        if vacant(image, t, s) {
+            return Found::At(s);
+        }
+        s += 1;
+    }
+    Found::Nothing
+}
