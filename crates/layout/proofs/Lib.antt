@@ -10,3 +10,4 @@ pub mod Map
 pub mod Good
 pub mod Members
 pub mod MapAll
+pub mod Count
