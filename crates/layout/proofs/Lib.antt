@@ -11,3 +11,5 @@ pub mod Good
 pub mod Members
 pub mod MapAll
 pub mod Count
+pub mod Chain
+pub mod ChainSteps
