@@ -1,0 +1,337 @@
+//! "Commands" and "Status numbers and their order": one function for each command.
+
+use crate::channel::{as_table, held, named, Channel, Reading, Table, Writing, CHANNELS};
+use crate::directory::{
+    as_slot, count, flag, set_flag, set_slot_name, slot_name, Name, DELETED, FILE, LOCKED, OUTPUT,
+    OUTPUT_FILE, SLOTS,
+};
+use crate::disk::Disk;
+use crate::fault::Fault;
+use crate::status::{Outcome, Status};
+use crate::Model;
+
+/// What one CIO call asks for, apart from what it is lent.
+pub(crate) struct Request<'a> {
+    pub channel: u8,
+    pub command: u8,
+    pub direction: u8,
+    pub name: &'a [u8],
+}
+
+/// The commands listed.
+#[derive(Clone, Copy, PartialEq, Eq)]
+enum Command {
+    Open,
+    Get,
+    Put,
+    Close,
+    Status,
+    Rename,
+    Delete,
+    Lock,
+    Unlock,
+    Format,
+}
+
+impl Command {
+    /// 132 for commands 0 to 2, 168 for any other not listed.
+    fn of(number: u8) -> Result<Command, Status> {
+        Ok(match number {
+            3 => Command::Open,
+            7 => Command::Get,
+            11 => Command::Put,
+            12 => Command::Close,
+            13 => Command::Status,
+            32 => Command::Rename,
+            33 => Command::Delete,
+            35 => Command::Lock,
+            36 => Command::Unlock,
+            254 => Command::Format,
+            0..=2 => return Err(Status::ReservedCommand),
+            _ => return Err(Status::WrongCommand),
+        })
+    }
+
+    /// All but get, put and close need a closed channel.
+    fn needs_closed(self) -> bool {
+        !matches!(self, Command::Get | Command::Put | Command::Close)
+    }
+}
+
+/// Which way a file is opened.
+#[derive(Clone, Copy, PartialEq, Eq)]
+enum Direction {
+    Read,
+    Write,
+}
+
+impl Direction {
+    fn of(number: u8) -> Result<Direction, Status> {
+        match number {
+            4 => Ok(Direction::Read),
+            8 => Ok(Direction::Write),
+            _ => Err(Status::WrongCommand),
+        }
+    }
+}
+
+impl<const FAULT: u8> Model<FAULT> {
+    /// The checks that every command makes, then the command.
+    pub(crate) fn run_cio(
+        image: &mut [u8],
+        table: &mut [u16],
+        request: Request,
+        buffer: &mut [u8],
+    ) -> Outcome {
+        let table = as_table(table)?;
+        let number = usize::from(request.channel);
+        if Self::wrong(Fault::ChannelBeforeImage) && number >= CHANNELS {
+            return Err(Status::NoSuchChannel.into());
+        }
+        let disk: &mut Disk = image.try_into().map_err(|_| Status::WrongImage)?;
+        let record = *table.get(number).ok_or(Status::NoSuchChannel)?;
+        let command = Self::command(request.command)?;
+        let before = Channel::of(record).ok_or(Status::Malformed)?;
+        Self::require_closed(table, before, command)?;
+        let mut channel = before;
+        let outcome = match command {
+            Command::Open => Self::open(disk, table, &request, &mut channel),
+            Command::Get => Self::get_from(disk, &mut channel, buffer),
+            Command::Put => Self::put_to(disk, &mut channel, buffer),
+            Command::Close => Self::close(disk, &mut channel),
+            Command::Status => Self::status(disk, request.name),
+            Command::Rename => Self::rename(disk, table, request.name),
+            Command::Delete => Self::delete(disk, table, request.name),
+            Command::Lock => Self::set_lock(disk, table, request.name, LOCKED),
+            Command::Unlock => Self::set_lock(disk, table, request.name, 0),
+            Command::Format => Self::format(disk, table, request.name),
+        };
+        Self::store(&mut table[number], before, channel);
+        outcome
+    }
+
+    /// 132, 168.
+    fn command(number: u8) -> Result<Command, Status> {
+        if Self::wrong(Fault::NoSuchReserved) && number < 3 {
+            return Err(Status::WrongCommand);
+        }
+        Command::of(number)
+    }
+
+    /// 129, then 161, which no call can meet: where all eight channels are open, so is the one
+    /// to be opened.
+    fn require_closed(table: &Table, channel: Channel, command: Command) -> Result<(), Status> {
+        let all_open = command == Command::Open && table.iter().all(|record| record[0] != 0);
+        if Self::wrong(Fault::AllOpenFirst) && all_open {
+            return Err(Status::AllChannelsOpen);
+        }
+        if command.needs_closed() && channel != Channel::Closed {
+            return Err(Status::ChannelOpen);
+        }
+        if all_open {
+            return Err(Status::AllChannelsOpen);
+        }
+        Ok(())
+    }
+
+    /// Open, in one of its two directions.
+    fn open(disk: &mut Disk, table: &Table, request: &Request, channel: &mut Channel) -> Outcome {
+        if Self::wrong(Fault::DirectionAfterName) {
+            Self::file_name(request.name)?;
+        }
+        let direction = Direction::of(request.direction)?;
+        let name = Self::file_name(request.name)?;
+        *channel = match direction {
+            Direction::Read => Channel::Reading(Self::open_read(disk, table, &name)?),
+            Direction::Write => Channel::Writing(Self::open_write(disk, table, &name)?),
+        };
+        Ok(0)
+    }
+
+    /// Open for reading: before the first byte, with the slot's count of sectors yet to enter.
+    /// It is refused with 200 only for a file open for output.
+    fn open_read(disk: &Disk, table: &Table, name: &Name) -> Result<Reading, Status> {
+        let slot = Self::find(disk, name).ok_or(Status::NotFound)?;
+        let named = Self::wrong(Fault::OpenOfRead) && named(table, slot);
+        if flag(disk, slot) & OUTPUT != 0 || named {
+            return Err(Status::Held);
+        }
+        Ok(Reading {
+            slot: slot.into(),
+            sector: 0,
+            offset: 0,
+            left: count(disk, slot),
+        })
+    }
+
+    /// Open for writing: frees the found file's chain and keeps its slot, or takes a new slot;
+    /// then flag `$43` and one sector.
+    fn open_write(disk: &mut Disk, table: &Table, name: &Name) -> Result<Writing, Status> {
+        Self::require_good_table(disk)?;
+        let slot = match Self::find(disk, name) {
+            Some(slot) => {
+                Self::require_unlocked_unheld(disk, table, slot)?;
+                Self::require_clean_chain(disk, slot)?;
+                Self::free_chain(disk, slot);
+                slot
+            }
+            None => {
+                let slot = Self::slot_for_new_file(disk, table)?;
+                set_slot_name(disk, slot, name);
+                slot
+            }
+        };
+        set_flag(disk, slot, OUTPUT_FILE);
+        let last = Self::give_out(disk, slot, None, 0).ok_or(Status::NoSector)?;
+        Ok(Writing {
+            slot: slot.into(),
+            last,
+        })
+    }
+
+    /// The lowest slot that is deleted or zero and named by no channel, if a sector is free too.
+    fn slot_for_new_file(disk: &Disk, table: &Table) -> Result<u8, Status> {
+        let slot = (0..SLOTS)
+            .filter(|&slot| flag(disk, slot) == 0 || flag(disk, slot) & DELETED != 0)
+            .find(|&slot| !named(table, slot) || Self::wrong(Fault::HeldSlotTaken));
+        let sector = Self::lowest_free(disk, 0);
+        if Self::wrong(Fault::NoSectorFirst) && sector.is_none() {
+            return Err(Status::NoSector);
+        }
+        let slot = slot.ok_or(Status::NoSlot)?;
+        sector.ok_or(Status::NoSector)?;
+        Ok(slot)
+    }
+
+    /// Close frees the channel whatever it answers. A writing one's flag `$43` becomes `$42`;
+    /// without that flag, or with a slot above 63, the answer is 164.
+    fn close(disk: &mut Disk, channel: &mut Channel) -> Outcome {
+        let Channel::Writing(writing) = *channel else {
+            *channel = Channel::Closed;
+            return Ok(0);
+        };
+        let slot = as_slot(writing.slot).filter(|&slot| flag(disk, slot) == OUTPUT_FILE);
+        if slot.is_some() || !Self::wrong(Fault::CloseKeepsChannel) {
+            *channel = Channel::Closed;
+        }
+        let slot = slot.ok_or(Status::WrongChain)?;
+        if !Self::wrong(Fault::OutputFlagKept) {
+            set_flag(disk, slot, FILE);
+        }
+        Ok(0)
+    }
+
+    /// Status of a name: 170, 167 or 1.
+    fn status(disk: &Disk, name: &[u8]) -> Outcome {
+        let name = Self::file_name(name)?;
+        let slot = Self::find(disk, &name).ok_or(Status::NotFound)?;
+        if flag(disk, slot) & LOCKED != 0 && !Self::wrong(Fault::StatusOfLocked) {
+            return Err(Status::Locked.into());
+        }
+        Ok(0)
+    }
+
+    /// Rename writes the eleven bytes.
+    fn rename(disk: &mut Disk, table: &Table, names: &[u8]) -> Outcome {
+        let (old, new) = Self::two_names(names)?;
+        let slot = Self::found_on_good_table(disk, &old)?;
+        Self::require_unlocked_unheld(disk, table, slot)?;
+        let taken = Self::standing(disk)
+            .filter(|&other| other != slot || Self::wrong(Fault::SameNameTaken))
+            .any(|other| slot_name(disk, other) == new);
+        if taken {
+            return Err(Status::NameTaken.into());
+        }
+        set_slot_name(disk, slot, &new);
+        Ok(0)
+    }
+
+    /// Delete frees the chain and sets the flag to `$80`; all else in the slot stays.
+    fn delete(disk: &mut Disk, table: &Table, name: &[u8]) -> Outcome {
+        let name = Self::file_name(name)?;
+        let slot = Self::found_on_good_table(disk, &name)?;
+        Self::require_unlocked_unheld(disk, table, slot)?;
+        let clean = Self::require_clean_chain(disk, slot);
+        if clean.is_ok() {
+            Self::free_chain(disk, slot);
+        } else if !Self::wrong(Fault::DeleteWithoutChain) {
+            clean?;
+        }
+        let kept = if Self::wrong(Fault::DeleteKeepsFlag) {
+            flag(disk, slot)
+        } else {
+            0
+        };
+        set_flag(disk, slot, DELETED | kept);
+        Ok(0)
+    }
+
+    /// Lock sets `$20`, unlock clears it. A locked file is not refused.
+    fn set_lock(disk: &mut Disk, table: &Table, name: &[u8], lock: u8) -> Outcome {
+        let name = Self::file_name(name)?;
+        let slot = Self::found_on_good_table(disk, &name)?;
+        if Self::wrong(Fault::LockOfLocked) && flag(disk, slot) & LOCKED != 0 {
+            return Err(Status::Locked.into());
+        }
+        if held(disk, table, slot) {
+            return Err(Status::Held.into());
+        }
+        let lock = if Self::wrong(Fault::LockClears) {
+            0
+        } else {
+            lock
+        };
+        set_flag(disk, slot, flag(disk, slot) & !LOCKED | lock);
+        Ok(0)
+    }
+
+    /// Format: `D:` alone, and no channel open.
+    fn format(disk: &mut Disk, table: &Table, name: &[u8]) -> Outcome {
+        Self::device_alone(name)?;
+        let open = table.iter().any(|record| record[0] != 0);
+        if open && !Self::wrong(Fault::FormatUnderChannel) {
+            return Err(Status::Held.into());
+        }
+        Self::clear(disk);
+        Ok(0)
+    }
+
+    /// 163.
+    pub(crate) fn require_good_table(disk: &Disk) -> Result<(), Status> {
+        Self::table_is_good(disk)
+            .then_some(())
+            .ok_or(Status::WrongVolumeTable)
+    }
+
+    /// 163, then 170.
+    fn found_on_good_table(disk: &Disk, name: &Name) -> Result<u8, Status> {
+        let found = Self::find(disk, name).ok_or(Status::NotFound);
+        if Self::wrong(Fault::SearchBeforeTable) {
+            found?;
+        }
+        Self::require_good_table(disk)?;
+        found
+    }
+
+    /// 167, then 200.
+    fn require_unlocked_unheld(disk: &Disk, table: &Table, slot: u8) -> Result<(), Status> {
+        let held = held(disk, table, slot);
+        if Self::wrong(Fault::HeldBeforeLocked) && held {
+            return Err(Status::Held);
+        }
+        if flag(disk, slot) & LOCKED != 0 {
+            return Err(Status::Locked);
+        }
+        if held {
+            return Err(Status::Held);
+        }
+        Ok(())
+    }
+
+    /// 164.
+    fn require_clean_chain(disk: &Disk, slot: u8) -> Result<(), Status> {
+        Self::chain_is_clean(disk, slot, false)
+            .then_some(())
+            .ok_or(Status::WrongChain)
+    }
+}

@@ -1,0 +1,109 @@
+//! Wrong variants of the model: what a comparison must be able to notice.
+//!
+//! `Model<0>` is right. `Model<F>`, for the number `F` of a [`Fault`], makes that one mistake.
+//! The switch is a constant, so the right model carries no trace of it when compiled.
+
+use crate::Model;
+
+/// Declares the faults, numbered from 1 in order, and the list of their texts.
+macro_rules! faults {
+    ($($name:ident: $text:literal,)*) => {
+        #[derive(Clone, Copy, Debug, PartialEq, Eq)]
+        #[repr(u8)]
+        pub enum Fault {
+            /// No fault.
+            None,
+            $(#[doc = $text] $name,)*
+        }
+
+        /// Every fault with what it does wrong; its number is its place in the list, plus one.
+        pub const FAULTS: &[(Fault, &str)] = &[$((Fault::$name, $text),)*];
+    };
+}
+
+faults! {
+    // The volume table.
+    MapFromLowEnd: "map bits are counted from the low end",
+    GoodWithoutReserved: "a table with the directory's sectors marked free is good",
+    GoodWithoutCount: "the free count is not compared with the map",
+    FreeCountNotLowered: "giving out a sector does not lower the free count",
+    FreeCountNotRaised: "freeing a chain does not raise the free count",
+    HighestFree: "a sector given out is the highest free one",
+    // The directory.
+    SearchSkipsOutput: "a search skips files open for output",
+    SearchPastZero: "a search goes on behind a flag byte of zero",
+    HeldSlotTaken: "a new file takes a slot that a channel holds",
+    // File sectors.
+    HighLinkBits: "the high link bits are the top of byte 125",
+    ChainWithoutSlot: "a chain is clean with sectors of another slot",
+    ChainUnmarked: "a chain is clean with sectors that are marked free",
+    LongestChain: "a chain of 707 sectors is not clean",
+    // Channels.
+    ClosedKeepsWords: "a closed channel keeps its other words",
+    UnusedWordsCleared: "a call clears the words that its channel does not use, changed or not",
+    OffsetNotTested: "get does not test the offset of a lent record",
+    // Names.
+    OtherDriveNoDevice: "another drive number answers 130",
+    DigitFirst: "a name may begin with a digit",
+    NoEndingByte: "a name may end with the lent bytes",
+    NinthLetter: "a ninth letter is cut off",
+    ZeroPadding: "rename pads the new name with 0",
+    // The order of refusals.
+    ChannelBeforeImage: "134 comes before 203",
+    AllOpenFirst: "161 comes before 129",
+    NoBytesFirst: "a get or put of no bytes answers 1 before 131 and 135",
+    DirectionAfterName: "an open looks at its direction behind the name",
+    SearchBeforeTable: "170 comes before 163",
+    HeldBeforeLocked: "200 comes before 167",
+    NoSectorFirst: "162 comes before 169",
+    LockOfLocked: "lock and unlock of a locked file answer 167",
+    OpenOfRead: "an open for reading answers 200 for every slot that is held",
+    // Commands.
+    NoSuchReserved: "commands 0 to 2 answer 168",
+    CountKept: "a file opened again for output counts on from its old length",
+    BytesInUseKept: "a sector given out keeps its old count of bytes in use",
+    SectorTooEarly: "put gives out a sector as soon as the last one is full",
+    FirstPutOnly: "put stores into an empty file and only reports afterwards",
+    ByteCountNotStored: "put does not write byte 127",
+    NoCountOfPart: "put with 162 reports no bytes",
+    PutBehindEnd: "put does not ask that the last sector has next sector 0",
+    PutAnyCount: "put takes a slot with a count above 707",
+    LeftNotLowered: "get lowers the sectors left to enter for empty sectors alone",
+    LeftIgnored: "get enters a sector with bytes when none are left to enter",
+    EndTooEarly: "get answers 136 when it delivers the last byte",
+    EmptySectorEnds: "get ends at a sector with count 0",
+    RestCleared: "get clears the rest of the buffer",
+    OutputFlagKept: "close leaves the flag $43",
+    CloseKeepsChannel: "close with 164 leaves the channel open",
+    StatusOfLocked: "status of a locked file answers 1",
+    SameNameTaken: "rename to a file's own name answers 201",
+    LockClears: "lock clears the flag that it should set",
+    DeleteKeepsFlag: "delete adds $80 to the flag",
+    DeleteWithoutChain: "delete of a file whose chain is not clean frees nothing and answers 1",
+    FormatKeepsData: "format clears the volume table and the directory alone",
+    FormatUnderChannel: "format does not ask whether a channel is open",
+    // Recovery.
+    RecoverAnySlotNumber: "recovery does not look at the slot number in the sectors",
+    RecoverTakenName: "recovery does not look for another file of the name",
+    RecoverIllegalName: "recovery takes back a file without a legal name",
+    RecoverPastZero: "recovery takes back a slot behind a flag byte of zero",
+    RecoverFixedCount: "recovery always reports one sector",
+    RecoverCountKept: "recovery does not lower the free count",
+    // Sector calls and showing.
+    WriteShort: "a sector write leaves the last byte",
+    LastSector: "a sector call refuses sector 720",
+    BufferFirst: "204 comes before 139",
+    ShowWholeSector: "showing hands back all 125 data bytes",
+    ShowUnused: "showing answers no for an empty sector",
+    // Thin calls, and names taken apart.
+    ThinKeepsRecord: "the thin put does not advance the record",
+    ThinStateFirst: "a thin call answers 133 before 203",
+    RefusedNameWritten: "a refused name blanks the eleven bytes",
+}
+
+impl<const FAULT: u8> Model<FAULT> {
+    /// Does this variant make the mistake?
+    pub(crate) const fn wrong(fault: Fault) -> bool {
+        FAULT == fault as u8
+    }
+}

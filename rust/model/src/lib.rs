@@ -1,0 +1,174 @@
+//! A second program for the rules of timing-desk disks.
+//!
+//! The paper *Timing-desk disks: what is served, and the precise rules* says what every call on
+//! a disk image does. This crate does what it says, in plain Rust, written from the paper and
+//! from nothing else. It shares no code with the proved library, which makes it of use twice:
+//! the two are compared byte for byte on many disks (package `compare`), and it is the measure
+//! for the library's speed.
+//!
+//! The modules follow the paper's sections:
+//!
+//! | Module | Section |
+//! |---|---|
+//! | [`disk`], [`volume`], [`directory`], [`file`](mod@file) | The disk: its sectors, volume table, directory, file sectors and chains |
+//! | [`sound`] | The disk: when a disk with its channels is *sound* |
+//! | [`channel`] | The channels |
+//! | [`names`] | Commands: names |
+//! | `commands`, `transfer` | Commands, status numbers and their order |
+//! | `recovery`, `sectors`, `showing` | Recovery, Sectors, Showing |
+//! | [`status`] | the status numbers |
+//!
+//! There are seven calls, those of the C interface with slices in place of pointers and lengths:
+//! [`cio`], [`recover`], [`sector`], [`show`], [`thin_get`], [`thin_put`], [`name`]. Each answers
+//! one number, status + 256 * count.
+//!
+//! ```
+//! let mut image = vec![0; model::disk::IMAGE];
+//! let mut table = [0; 40];
+//! assert_eq!(model::cio(&mut image, &mut table, 0, 254, 0, b"D:\x9b", &mut []), 1);
+//! assert_eq!(model::cio(&mut image, &mut table, 0, 3, 8, b"D:A\x9b", &mut []), 1);
+//! let mut bytes = *b"HELLO";
+//! assert_eq!(model::cio(&mut image, &mut table, 0, 11, 0, b"", &mut bytes), 1 + 256 * 5);
+//! ```
+//!
+//! [`Model`] has a constant parameter that makes it wrong in one chosen way; see [`fault`].
+
+#![forbid(unsafe_code)]
+
+pub mod channel;
+mod commands;
+pub mod directory;
+pub mod disk;
+pub mod fault;
+pub mod file;
+pub mod names;
+mod recovery;
+mod sectors;
+mod showing;
+pub mod sound;
+pub mod status;
+mod transfer;
+pub mod volume;
+
+use status::number;
+
+/// The seven calls. `FAULT` 0 does what the paper says; any other number makes the mistake that
+/// [`fault::FAULTS`] lists under it.
+pub struct Model<const FAULT: u8>;
+
+/// The model that does what the paper says.
+pub type Right = Model<0>;
+
+impl<const FAULT: u8> Model<FAULT> {
+    /// Carries out one CIO command on a channel of the table.
+    pub fn cio(
+        image: &mut [u8],
+        table: &mut [u16],
+        channel: u8,
+        command: u8,
+        direction: u8,
+        name: &[u8],
+        buffer: &mut [u8],
+    ) -> u64 {
+        let request = commands::Request {
+            channel,
+            command,
+            direction,
+            name,
+        };
+        number(Self::run_cio(image, table, request, buffer))
+    }
+
+    /// Takes back a deleted file; the count is the number of its sectors.
+    pub fn recover(image: &mut [u8], slot: u8) -> u64 {
+        number(Self::run_recover(image, slot))
+    }
+
+    /// Reads (`$52`) or writes (`$50`, `$57`) one sector.
+    pub fn sector(
+        image: &mut [u8],
+        device: u8,
+        unit: u8,
+        command: u8,
+        sector: u16,
+        buffer: &mut [u8],
+    ) -> u64 {
+        number(Self::run_sector(
+            image, device, unit, command, sector, buffer,
+        ))
+    }
+
+    /// Where the bytes in use of one sector are: 1, and above its eight bits the offset in the
+    /// image * 1024 + the length; or 0.
+    pub fn show(image: &[u8], slot: u8, sector: u16) -> u64 {
+        match Self::shown(image, slot, sector) {
+            Some(part) => 1 + 256 * (1024 * part.start + part.len()) as u64,
+            None => 0,
+        }
+    }
+
+    /// A get that advances one lent channel record of five words.
+    pub fn thin_get(image: &[u8], words: &mut [u16], buffer: &mut [u8]) -> u64 {
+        number(Self::run_thin_get(image, words, buffer))
+    }
+
+    /// A put that advances one lent channel record of five words.
+    pub fn thin_put(image: &mut [u8], words: &mut [u16], buffer: &[u8]) -> u64 {
+        number(Self::run_thin_put(image, words, buffer))
+    }
+
+    /// Takes a name apart into its eleven padded bytes, or answers its refusal.
+    pub fn name(name: &[u8], eleven: &mut [u8]) -> u64 {
+        number(Self::run_name(name, eleven))
+    }
+}
+
+/// [`Model::cio`] without a fault.
+pub fn cio(
+    image: &mut [u8],
+    table: &mut [u16],
+    channel: u8,
+    command: u8,
+    direction: u8,
+    name: &[u8],
+    buffer: &mut [u8],
+) -> u64 {
+    Right::cio(image, table, channel, command, direction, name, buffer)
+}
+
+/// [`Model::recover`] without a fault.
+pub fn recover(image: &mut [u8], slot: u8) -> u64 {
+    Right::recover(image, slot)
+}
+
+/// [`Model::sector`] without a fault.
+pub fn sector(
+    image: &mut [u8],
+    device: u8,
+    unit: u8,
+    command: u8,
+    sector: u16,
+    buffer: &mut [u8],
+) -> u64 {
+    Right::sector(image, device, unit, command, sector, buffer)
+}
+
+/// [`Model::show`] without a fault.
+pub fn show(image: &[u8], slot: u8, sector: u16) -> u64 {
+    Right::show(image, slot, sector)
+}
+
+/// [`Model::thin_get`] without a fault.
+pub fn thin_get(image: &[u8], words: &mut [u16], buffer: &mut [u8]) -> u64 {
+    Right::thin_get(image, words, buffer)
+}
+
+/// [`Model::thin_put`] without a fault.
+pub fn thin_put(image: &mut [u8], words: &mut [u16], buffer: &[u8]) -> u64 {
+    Right::thin_put(image, words, buffer)
+}
+
+/// [`Model::name`] without a fault.
+pub fn name(name: &[u8], eleven: &mut [u8]) -> u64 {
+    Right::name(name, eleven)
+}
