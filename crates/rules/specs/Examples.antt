@@ -1,4 +1,4 @@
--- The bench examples marked with a star: a table of runs and what is expected of each.
+-- The bench examples marked with a star, and two runs that the errors the bench has seen would change: one table of runs and what is expected of each.
 use mathlib.Core.Bool.{_&&_, _||_}
 use mathlib.Core.List.{List, [], _∷_, _++_, map}
 use mathlib.Core.Path.{_≡_, refl}
@@ -69,9 +69,14 @@ nearlyFull = record { disk = λ k. if (eqb k 360) volume (if (eqb k 361) slots (
     slots : Sector
     slots j = if (ltb j 80 && eqb (j % 16) 0) 0x42 0
 
--- a command with its direction, on channel 0
+-- a command with its direction, on channel i
+cioOn : ℕ → ℕ → ℕ → List ℕ → List ℕ → Call
+cioOn i n direction text b = cioOf (record { channel = i; command = n; direction = direction }) text b
+
+-- the same on channel 0
 cio0 : ℕ → ℕ → List ℕ → List ℕ → Call
-cio0 n direction text b = cioOf (record { channel = 0; command = n; direction = direction }) text b
+unfolding cioOn
+cio0 n direction text b = cioOn 0 n direction text b
 
 -- `D:` and one letter, ended by $9B
 nameOf : ℕ → List ℕ
@@ -104,7 +109,7 @@ row x cs answers b bytes = record { start = x; calls = cs; expected = record { a
 
 -- the examples, by their numbers
 examples : List Example
-unfolding formatted unformatted nearlyFull cio0 nameOf A B C make made remove row
+unfolding formatted unformatted nearlyFull cioOn cio0 nameOf A B C make made remove row
 examples =
     -- 1. Format: map bytes 10, 55, 56 are $0F, $00, $7F; the free count is 707
     row unformatted (cio0 254 0 (68 ∷ 58 ∷ 0x9B ∷ []) [] ∷ []) ((1, 0) ∷ []) [] ((360, 10, 0x0F) ∷ (360, 55, 0x00) ∷ (360, 56, 0x7F) ∷ (360, 3, 707 % 256) ∷ (360, 4, 707 / 256) ∷ [])
@@ -130,6 +135,11 @@ examples =
     (made 1 ++ made 1 ++ ((1, 0) ∷ (1, 0) ∷ made 126) ++ (1, 0) ∷ (202, 0) ∷ (1, 2) ∷ []) [] []
     -- 10. A and B, delete B, rename A to B: recover 1 gives 201
     ∷ row formatted (make A 1 ++ make B 1 ++ remove B ∷ cio0 32 0 (68 ∷ 58 ∷ A ∷ 44 ∷ B ∷ 0x9B ∷ []) [] ∷ recoveryOf 1 ∷ []) (made 1 ++ made 1 ++ (1, 0) ∷ (1, 0) ∷ (201, 0) ∷ []) [] []
+    -- a search that skips files open for output would make a second file of that name
+    ∷ row formatted (cio0 3 8 (nameOf A) [] ∷ cioOn 1 3 8 (nameOf A) [] ∷ []) ((1, 0) ∷ (200, 0) ∷ []) [] []
+    -- what a second put adds is read back behind the first
+    ∷ row formatted (cio0 3 8 (nameOf A) [] ∷ cio0 11 0 [] (A ∷ []) ∷ cio0 11 0 [] (B ∷ C ∷ []) ∷ cio0 12 0 [] [] ∷ cio0 3 4 (nameOf A) [] ∷ cio0 7 0 [] (replicate 3 0) ∷ [])
+    ((1, 0) ∷ (1, 1) ∷ (1, 2) ∷ (1, 0) ∷ (1, 0) ∷ (1, 3) ∷ []) (A ∷ B ∷ C ∷ []) []
     ∷ []
 
 -- what happens in each is what is expected

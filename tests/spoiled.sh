@@ -1,0 +1,95 @@
+#!/usr/bin/env bash
+# Spoiled definitions. Each tests/spoiled/*.edit names a crate, a change of one of its definitions, and the crate above it
+# that must be refused for it, with the file in which the refusal has to stand: `crate:`, `file:`, `old:`, `new:` (one line
+# each, old and new in pairs), `refused:`, `at:`.
+# The crates are copied aside, the change is made in the copy, and every crate up to the refused one is proved.
+# The refusal has to be at a fact: a missing name or a definition that is no longer well formed does not count.
+# Ends with 'N passed, M failed', an edit refused being one passed, and exits non-zero where one was not refused.
+set -uo pipefail
+cd "$(dirname "$0")/.."
+root=$PWD
+work=$(mktemp -d)
+trap 'rm -rf "$work"' EXIT
+
+# What a crate stands on, itself last.
+below() {
+    local deps dep
+    deps=$(sed -n "s/^$1: *//p; s/^$1:$//p" "$root/crates.txt")
+    for dep in $deps; do
+        [ -d "$root/crates/$dep" ] && below "$dep"
+    done
+    echo "$1"
+}
+
+# Replaces the one place of text $2 in file $1 by text $3.
+replace() {
+    OLD=$2 NEW=$3 awk '
+        { text = text $0 "\n" }
+        END {
+            at = index(text, ENVIRON["OLD"])
+            if (!at) exit 1
+            rest = substr(text, at + length(ENVIRON["OLD"]))
+            if (index(rest, ENVIRON["OLD"])) exit 1
+            printf "%s%s%s", substr(text, 1, at - 1), ENVIRON["NEW"], rest
+        }' "$1" >"$1.new" && mv "$1.new" "$1"
+}
+
+# Copies the crates up to $2 into folder $1.
+copy_crates() {
+    local name
+    mkdir -p "$1/crates"
+    for name in $(below "$2" | awk '!seen[$0]++'); do
+        mkdir -p "$1/crates/$name"
+        for part in src specs proofs; do
+            [ ! -d "crates/$name/$part" ] || cp -R "crates/$name/$part" "$1/crates/$name/"
+        done
+        grep "^$name:" crates.txt >>"$1/crates.txt"
+    done
+}
+
+# Tries one edit; writes its verdict to $work/LABEL.res.
+try() {
+    local edit=$1 label place line crate='' file='' old='' refused at found log
+    label=$(basename "$edit" .edit)
+    place=$work/$label
+    refused=$(sed -n 's/^refused: //p' "$edit")
+    at=$(sed -n 's/^at: //p' "$edit")
+    copy_crates "$place" "$refused"
+    while IFS= read -r line; do
+        case $line in
+        'crate: '*) crate=${line#crate: } ;;
+        'file: '*) file=${line#file: } ;;
+        'old: '*) old=${line#old: } ;;
+        'new: '*)
+            if ! replace "$place/crates/$crate/$file" "$old" "${line#new: }"; then
+                echo "spoiled $label: BAD EDIT: its old text is not in $crate/$file exactly once" >"$place.res"
+                return
+            fi
+            ;;
+        esac
+    done <"$edit"
+    log=$place.log
+    (cd "$place" && RT_JOBS=1 rt check "$refused") >"$log" 2>&1
+    found=$(grep -m 1 -E "/$at:[0-9]+:[0-9]+: error" "$log" | cut -c1-1000)
+    if ! grep -q "^rt: FAILED: $refused\$" "$log"; then
+        echo "spoiled $label: NOT REFUSED by $refused: $(tail -n 1 "$log")" >"$place.res"
+    elif [ -z "$found" ]; then
+        echo "spoiled $label: NOT REFUSED in $at" >"$place.res"
+    elif grep -qE 'not in scope|was not admitted|no field|has no' <<<"$found"; then
+        echo "spoiled $label: BAD EDIT: refused at a name and not at a fact: $found" >"$place.res"
+    else
+        echo "refused: spoiled $label, as it must be ($refused, $(grep -oE "$at:[0-9]+:[0-9]+" <<<"$found"))" >"$place.res"
+    fi
+    rm -rf "$place"
+}
+
+for edit in tests/spoiled/*.edit; do
+    while [ "$(jobs -rp | wc -l)" -ge 2 ]; do wait -n; done
+    try "$edit" &
+done
+wait
+cat "$work"/*.res
+good=$(cat "$work"/*.res | grep -c '^refused: ')
+all=$(ls tests/spoiled/*.edit | wc -l)
+echo "$good passed, $((all - good)) failed"
+[ "$good" -eq "$all" ]
