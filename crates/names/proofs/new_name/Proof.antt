@@ -1,0 +1,34 @@
+use borrow.Author.Needs.{needs}
+use Rattle.layout.specs.Names.{newName}
+use Rattle.names.proofs.new_name.Statement.{statement}
+use Rattle.names.proofs.new_name.Tie as tie
+
+body-requires : tie.Need-body-requires
+body-requires c κs = search needs
+
+name-end-requires : tie.Need-name-end-requires
+name-end-requires c κs = search needs
+
+whole-end-requires : tie.Need-whole-end-requires
+whole-end-requires c κs = search needs
+
+add-name-at : tie.Need-add-name-at
+add-name-at c = search needs
+
+name-at-requires : tie.Need-name-at-requires
+name-at-requires c κs = search needs
+
+returns : tie.Need-returns
+unfolding newName
+returns c = cc
+
+pub new-name-spec : {M : Type 1} → statement M
+new-name-spec =
+    tie.close
+    (tie.spec
+    body-requires
+    name-end-requires
+    whole-end-requires
+    add-name-at
+    name-at-requires
+    returns)

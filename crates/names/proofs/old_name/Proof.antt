@@ -1,0 +1,14 @@
+use borrow.Author.Needs.{needs}
+use Rattle.layout.specs.Names.{oldName}
+use Rattle.names.proofs.old_name.Statement.{statement}
+use Rattle.names.proofs.old_name.Tie as tie
+
+read-as-requires : tie.Need-read-as-requires
+read-as-requires c κs = search needs
+
+returns : tie.Need-returns
+unfolding oldName
+returns c = c .read-as .ensures
+
+pub old-name-spec : {M : Type 1} → statement M
+old-name-spec = tie.close (tie.spec read-as-requires returns)

@@ -1,0 +1,186 @@
+// Names taken apart: `D:` or `D1:`, a name and its extension; rename's two names; format's device alone.
+use chars::char;
+use chars::digit;
+use chars::end_of;
+use chars::ending;
+use chars::ends_by;
+use chars::letter;
+use layout::Name;
+use layout::status::BAD_DEVICE;
+use layout::status::BAD_NAME;
+use layout::status::BAD_UNIT;
+use layout::status::SUCCESS;
+ghost use mathlib.Core.Path.{_≡_};
+ghost use Prim.Native.Nat.{_+_, _≤_, _<_};
+ghost use lib.ListN.{length};
+ghost use Rattle.layout.specs.Names.{hasDevice, hasUnit, body, nameEnd, wholeEnd, wellFormed, padded, packed, nameAt, readAs, readName, oldName, newName, readDevice, nameStatus};
+ghost use Rattle.chars.specs.Ends.{endsBy};
+
+// `D`, an optional digit, and a colon.
+fn has_device(text: &[u8]) -> bool
+    ensures { λ r. ⌜ r ≡ hasDevice (now (text .entry)) ⌝ }
+{
+    let x = char(text, 1);
+    (char(text, 0) == 68) & ((x == 58) | (digit(x) & (char(text, 2) == 58)))
+}
+
+// The digit, where there is one, is 1.
+fn has_unit(text: &[u8]) -> bool
+    ensures { λ r. ⌜ r ≡ hasUnit (now (text .entry)) ⌝ }
+{
+    let x = char(text, 1);
+    (x == 58) | (x == 49)
+}
+
+// The place behind the colon.
+fn body(text: &[u8]) -> usize
+    ensures { λ r. ⌜ (r ≡ body (now (text .entry))) × (r ≤ 3) ⌝ }
+{
+    if char(text, 1) == 58 {
+        return 2;
+    }
+    3
+}
+
+// Where the name that begins at i ends.
+fn name_end(text: &[u8], i: usize) -> usize
+    requires { ⌜ i ≤ 32 ⌝ }
+    ensures { λ r. ⌜ (r ≡ nameEnd (now (text .entry)) i) × (r ≤ i + 8) ⌝ }
+{
+    end_of(text, 8, i)
+}
+
+// Where the extension behind it ends, if there is one.
+fn whole_end(text: &[u8], i: usize, e: usize) -> usize
+    requires { ⌜ (i ≤ 32) × (e ≤ i + 8) × (e ≡ nameEnd (now text) i) ⌝ }
+    ensures { λ r. ⌜ (r ≡ wholeEnd (now (text .entry)) i) × (e ≤ r) × (r ≤ i + 12) ⌝ }
+{
+    if char(text, e) == 46 {
+        return end_of(text, 3, e + 1);
+    }
+    e
+}
+
+// A letter first, and the right byte at the end w.
+fn well_formed(by_comma: bool, text: &[u8], i: usize, w: usize) -> bool
+    requires { ⌜ w ≡ wholeEnd (now text) i ⌝ }
+    ensures { λ r. ⌜ r ≡ wellFormed (endsBy «by_comma») (now (text .entry)) i ⌝ }
+{
+    letter(char(text, i)) & ends_by(by_comma, char(text, w))
+}
+
+// Byte j of what stands from i to e, blank padded.
+fn padded(text: &[u8], i: usize, e: usize, j: usize) -> u64
+    requires { ⌜ (i ≤ 64) × (j < 8) × (e ≤ length (now text)) ⌝ }
+    ensures { λ r. ⌜ (r ≡ padded (now (text .entry)) i e j) × (r < 256) ⌝ }
+{
+    let k = i + j;
+    if k < e {
+        return text[k] as u64;
+    }
+    32
+}
+
+// The name as a word.
+fn name_word(text: &[u8], i: usize, e: usize) -> u64
+    requires { ⌜ (i ≤ 64) × (e ≤ length (now text)) ⌝ }
+    ensures { λ r. ⌜ r ≡ packed (padded (now (text .entry)) i e) 8 ⌝ }
+{
+    padded(text, i, e, 0)
+        + 256 * padded(text, i, e, 1)
+        + 65536 * padded(text, i, e, 2)
+        + 16777216 * padded(text, i, e, 3)
+        + 4294967296 * padded(text, i, e, 4)
+        + 1099511627776 * padded(text, i, e, 5)
+        + 281474976710656 * padded(text, i, e, 6)
+        + 72057594037927936 * padded(text, i, e, 7)
+}
+
+// The extension as a word.
+fn extension_word(text: &[u8], i: usize, e: usize) -> u64
+    requires { ⌜ (i ≤ 64) × (e ≤ length (now text)) ⌝ }
+    ensures { λ r. ⌜ r ≡ packed (padded (now (text .entry)) i e) 3 ⌝ }
+{
+    padded(text, i, e, 0) + 256 * padded(text, i, e, 1) + 65536 * padded(text, i, e, 2)
+}
+
+// The name that begins at i.
+fn name_at(by_comma: bool, text: &[u8], i: usize) -> Name
+    requires { ⌜ i ≤ 32 ⌝ }
+    ensures { λ r. ⌜ r ≡ nameAt (endsBy «by_comma») (now (text .entry)) i ⌝ }
+{
+    let e = name_end(text, i);
+    let w = whole_end(text, i, e);
+    if !well_formed(by_comma, text, i, w) {
+        return Name::Refused(BAD_NAME);
+    }
+    Name::Is {
+        name: name_word(text, i, e),
+        extension: extension_word(text, e + 1, w),
+    }
+}
+
+// Device, unit and name.
+fn read_as(by_comma: bool, text: &[u8]) -> Name
+    ensures { λ r. ⌜ r ≡ readAs (endsBy «by_comma») (now (text .entry)) ⌝ }
+{
+    if !has_device(text) {
+        return Name::Refused(BAD_DEVICE);
+    }
+    if !has_unit(text) {
+        return Name::Refused(BAD_UNIT);
+    }
+    name_at(by_comma, text, body(text))
+}
+
+// The eleven padded bytes of a name, or its one refusal.
+pub fn read_name(text: &[u8]) -> Name
+    ensures { λ r. ⌜ r ≡ readName (now (text .entry)) ⌝ }
+{
+    read_as(false, text)
+}
+
+// The first of rename's two names.
+pub fn old_name(text: &[u8]) -> Name
+    ensures { λ r. ⌜ r ≡ oldName (now (text .entry)) ⌝ }
+{
+    read_as(true, text)
+}
+
+// The second of them, behind the comma.
+pub fn new_name(text: &[u8]) -> Name
+    ensures { λ r. ⌜ r ≡ newName (now (text .entry)) ⌝ }
+{
+    let i = body(text);
+    let e = name_end(text, i);
+    name_at(false, text, whole_end(text, i, e) + 1)
+}
+
+// The refusal of a device alone, or 1.
+pub fn read_device(text: &[u8]) -> u8
+    ensures { λ r. ⌜ r ≡ readDevice (now (text .entry)) ⌝ }
+{
+    if !has_device(text) {
+        return BAD_DEVICE;
+    }
+    if !has_unit(text) {
+        return BAD_UNIT;
+    }
+    if !ending(char(text, body(text))) {
+        return BAD_NAME;
+    }
+    SUCCESS
+}
+
+// The refusal of a name, or 1.
+pub fn name_status(n: Name) -> u8
+    ensures { λ r. ⌜ r ≡ nameStatus n ⌝ }
+{
+    match n {
+        Name::Is {
+            name: _,
+            extension: _,
+        } => SUCCESS,
+        Name::Refused(status) => status,
+    }
+}
