@@ -1,3 +1,4 @@
 pub mod Names
 pub mod Standing
 pub mod Find
+pub mod Row
