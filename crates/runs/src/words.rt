@@ -1,0 +1,70 @@
+// Eight bytes, or three, as one number: written as a sum, they are one load.
+ghost use mathlib.Core.Path.{_≡_};
+ghost use Prim.Native.Nat.{_+_, _*_, _≤_, _<_};
+ghost use lib.ListN.{length, getD};
+ghost use Rattle.layout.specs.Image.{single, view};
+ghost use Rattle.layout.specs.Directory.{name};
+ghost use Rattle.layout.specs.Names.{packed};
+ghost use Rattle.runs.specs.Words.{bytesFrom, mapFrom, extension};
+
+// A byte as a number of eight.
+fn wide(x: u8) -> u64
+    ensures { λ r. ⌜ (r ≡ x) × (r < 256) ⌝ }
+{
+    x as u64
+}
+
+// The byte at i.
+fn wide_at(s: &[u8], i: usize) -> u64
+    requires { ⌜ i < length (now s) ⌝ }
+    ensures { λ r. ⌜ (r ≡ getD (now (s .entry)) i 0) × (r < 256) ⌝ }
+{
+    wide(s[i])
+}
+
+// Three bytes from i on, the first of them lowest.
+fn word3(s: &[u8], i: usize) -> u64
+    requires { ⌜ i + 3 ≤ length (now s) ⌝ }
+    ensures { λ r. ⌜ r ≡ packed (bytesFrom (now (s .entry)) i) 3 ⌝ }
+{
+    wide_at(s, i) + 256 * wide_at(s, i + 1) + 65536 * wide_at(s, i + 2)
+}
+
+// Eight of them.
+fn word8(s: &[u8], i: usize) -> u64
+    requires { ⌜ i + 8 ≤ length (now s) ⌝ }
+    ensures { λ r. ⌜ r ≡ packed (bytesFrom (now (s .entry)) i) 8 ⌝ }
+{
+    wide_at(s, i)
+        + 256 * wide_at(s, i + 1)
+        + 65536 * wide_at(s, i + 2)
+        + 16777216 * wide_at(s, i + 3)
+        + 4294967296 * wide_at(s, i + 4)
+        + 1099511627776 * wide_at(s, i + 5)
+        + 281474976710656 * wide_at(s, i + 6)
+        + 72057594037927936 * wide_at(s, i + 7)
+}
+
+// The eight name bytes of a slot.
+pub fn name_word(image: &[u8], slot: u16) -> u64
+    requires { ⌜ (length (now image) ≡ 92160) × (slot < 64) ⌝ }
+    ensures { λ r. ⌜ r ≡ packed (name (view single (now (image .entry))) slot) 8 ⌝ }
+{
+    word8(image, 46085 + 16 * slot as usize)
+}
+
+// The three bytes of its extension.
+pub fn extension_word(image: &[u8], slot: u16) -> u64
+    requires { ⌜ (length (now image) ≡ 92160) × (slot < 64) ⌝ }
+    ensures { λ r. ⌜ r ≡ packed (extension (view single (now (image .entry))) slot) 3 ⌝ }
+{
+    word3(image, 46093 + 16 * slot as usize)
+}
+
+// Eight map bytes, from byte i of the map on.
+pub fn map_word(image: &[u8], i: usize) -> u64
+    requires { ⌜ (length (now image) ≡ 92160) × (i ≤ 82) ⌝ }
+    ensures { λ r. ⌜ r ≡ packed (mapFrom (view single (now (image .entry)) 360) i) 8 ⌝ }
+{
+    word8(image, 45962 + i)
+}
