@@ -2,7 +2,8 @@
 # Spoiled definitions. Each tests/spoiled/*.edit names a crate, a change of one of its definitions, and the crate above it
 # that must be refused for it, with the file in which the refusal has to stand: `crate:`, `file:`, `old:`, `new:` (one line
 # each, old and new in pairs), `refused:`, `at:`.
-# The crates are copied aside, the change is made in the copy, and every crate up to the refused one is proved.
+# The crates are copied aside, the change is made in the copy, and every crate up to the refused one is proved. Where an
+# example has to refuse it, `at: specs/..`, the laws in proofs/ are left out, since they may refuse it before the example does.
 # The refusal has to be at a fact: a missing name or a definition that is no longer well formed does not count.
 # Ends with 'N passed, M failed', an edit refused being one passed, and exits non-zero where one was not refused.
 set -uo pipefail
@@ -34,16 +35,17 @@ replace() {
         }' "$1" >"$1.new" && mv "$1.new" "$1"
 }
 
-# Copies the crates up to $2 into folder $1.
+# Copies the crates up to $2 into folder $1, with the parts named after that.
 copy_crates() {
-    local name
-    mkdir -p "$1/crates"
-    for name in $(below "$2" | awk '!seen[$0]++'); do
-        mkdir -p "$1/crates/$name"
-        for part in src specs proofs; do
-            [ ! -d "crates/$name/$part" ] || cp -R "crates/$name/$part" "$1/crates/$name/"
+    local place=$1 top=$2 name part
+    shift 2
+    mkdir -p "$place/crates"
+    for name in $(below "$top" | awk '!seen[$0]++'); do
+        mkdir -p "$place/crates/$name"
+        for part in "$@"; do
+            [ ! -d "crates/$name/$part" ] || cp -R "crates/$name/$part" "$place/crates/$name/"
         done
-        grep "^$name:" crates.txt >>"$1/crates.txt"
+        grep "^$name:" crates.txt >>"$place/crates.txt"
     done
 }
 
@@ -54,7 +56,10 @@ try() {
     place=$work/$label
     refused=$(sed -n 's/^refused: //p' "$edit")
     at=$(sed -n 's/^at: //p' "$edit")
-    copy_crates "$place" "$refused"
+    case $at in
+    specs/*) copy_crates "$place" "$refused" src specs ;;
+    *) copy_crates "$place" "$refused" src specs proofs ;;
+    esac
     while IFS= read -r line; do
         case $line in
         'crate: '*) crate=${line#crate: } ;;
