@@ -13,3 +13,4 @@ pub mod MapAll
 pub mod Count
 pub mod Chain
 pub mod ChainSteps
+pub mod Packed

@@ -3,12 +3,11 @@ use mathlib.Core.Bool.{Bool, true, false, not, _&&_, _||_, true≢false}
 use mathlib.Core.List.{List}
 use mathlib.Core.Logic.{_⊎_, inl, inr}
 use mathlib.Core.Path.{_≡_, refl, sym, ap, _∙_}
-use Prim.Native.Nat.{ℕ, suc, zero, _+_, _*_, _/_, _%_, _^_, _≤_, _<_}
+use Prim.Native.Nat.{ℕ, _+_, _*_, _/_, _%_, _^_, _≤_, _<_}
 use native.Mathlib.Nat.{add-zero}
 use native.Mathlib.Omega.{arith}
 use native.Mathlib.Decide.{decLt}
 use lib.Dec.{leb, ltb, eqb}
-use lib.Pow.{pow-add, shr-shr}
 use borrow.Author.Tests.{leb-true, ltb-true, lt-ltb, le-ltb, ne-eqb, not-false}
 use Rattle.layout.specs.declared.Name.the-variants.{Is, Refused}
 use Rattle.layout.specs.Basics.{if, check, firstFrom, allBelow}
@@ -16,25 +15,7 @@ use Rattle.layout.specs.Names.{char, letter, digit, plain, blank, other, nameEn
 use Rattle.layout.specs.Status.{badName, badDevice, badUnit}
 use Rattle.layout.proofs.Logic.{and-left, and-right, or-cases, or-right}
 use Rattle.layout.proofs.Search.{all-of, first-least, first-before}
-
--- byte 0 is the lowest, and the others are those of the rest
-packed-next : (w : ℕ → ℕ) (n : ℕ) → packed w (suc n) ≡ w 0 + 256 * packed (λ j. w (suc j)) n
-unfolding packed
-packed-next w zero = omega arith
-packed-next w (suc n) =
-    let e = packed-next w n in
-    let p : 2 ^ (8 * suc n) ≡ 256 * 2 ^ (8 * n) = ap (λ x. 2 ^ x) (omega arith) ∙ pow-add 2 8 (8 * n) in
-    rw p (omega arith)
-
--- a byte packed into a word and taken out again
-packed-byte : (w : ℕ → ℕ) (n j : ℕ) → j < n → ((i : ℕ) → i < n → w i < 256) → packed w n / 2 ^ (8 * j) % 256 ≡ w j
-packed-byte w zero j h f = absurd (omega arith)
-packed-byte w (suc n) zero h f = let e = packed-next w n in let b = f 0 (omega arith) in omega arith
-packed-byte w (suc n) (suc j) h f =
-    let v : ℕ = packed (λ i. w (suc i)) n in
-    let b = f 0 (omega arith) in
-    let rest : (w 0 + 256 * v) / 2 ^ 8 ≡ v = omega arith in
-    rw (packed-next w n) (ap (λ x. (w 0 + 256 * v) / 2 ^ x % 256) {x = 8 * suc j} {y = 8 + 8 * j} (omega arith) ∙ ap (λ x. x % 256) (sym (shr-shr (w 0 + 256 * v) 8 (8 * j))) ∙ rw rest (packed-byte (λ i. w (suc i)) n j (omega arith) (λ i l. f (suc i) (omega arith))))
+use Rattle.layout.proofs.Packed.{packed-byte}
 
 -- what stands between i and e is letters and digits
 Plains : List ℕ → ℕ → ℕ → Type 0
