@@ -130,6 +130,9 @@ module _ (d : Disk) (s v : ℕ) where
   unfolding putFlag
   flag-byte y n = entry-byte d s 0 v y n
 
+  pub flag-table : s < 64 → putFlag d s v 360 ≡ d 360
+  flag-table z = only-flag s z d v .sectors 360 table-outside
+
 -- two bytes of slot s written
 module _ (d : Disk) (s i u j v : ℕ) where
   two-byte : (y : ℕ) → y ≢ i → y ≢ j → entry (putEntry (putEntry d s i u) s j v) s y ≡ entry d s y
