@@ -1,0 +1,108 @@
+-- Records of five words: written, and read back after a call.
+use mathlib.Core.Bool.{Bool, true, false, _&&_}
+use mathlib.Core.List.{List, [], _∷_}
+use mathlib.Core.Path.{_≡_, refl, sym, _∙_}
+use Prim.Native.Nat.{ℕ}
+use native.Mathlib.Omega.{arith}
+use lib.Dec.{eqb}
+use lib.ListN.{length, getD, set}
+use lib.Seq.{ext-getD}
+use borrow.Author.Tests.{eqb-true, eq-eqb}
+use Rattle.layout.specs.declared.State.{State}
+use Rattle.layout.specs.declared.State.the-variants.{Closed, Reading, Writing}
+use Rattle.layout.specs.Basics.{allBelow}
+use Rattle.layout.proofs.Logic.{and-left}
+use Rattle.layout.proofs.Search.{all-at, all-of}
+use Rattle.words.specs.Words.{inForce, isRecord, stateIn, wordsOf, sameWord, sameState, recordAfter}
+
+-- a list of five has the five words that are read from it
+pub five : (ws : List ℕ) → length ws ≡ 5 → getD ws 0 0 ∷ getD ws 1 0 ∷ getD ws 2 0 ∷ getD ws 3 0 ∷ getD ws 4 0 ∷ [] ≡ ws
+five [] h = absurd (omega arith)
+five (a ∷ []) h = absurd (omega arith)
+five (a ∷ b ∷ []) h = absurd (omega arith)
+five (a ∷ b ∷ c ∷ []) h = absurd (omega arith)
+five (a ∷ b ∷ c ∷ d ∷ []) h = absurd (omega arith)
+five (a ∷ b ∷ c ∷ d ∷ e ∷ []) h = refl
+five (a ∷ b ∷ c ∷ d ∷ e ∷ f ∷ ws) h = absurd (omega arith)
+
+-- all five words of a list written are the words written
+pub five-set : (ws v : List ℕ) → length ws ≡ 5 → length v ≡ 5
+    → set (set (set (set (set ws 0 (getD v 0 0)) 1 (getD v 1 0)) 2 (getD v 2 0)) 3 (getD v 3 0)) 4 (getD v 4 0) ≡ v
+five-set ws v h k = rw (← five ws h) (five v k)
+
+-- all five, and all eight, as the code joins them
+and-yes : (a : Bool) → (a && true) ≡ a
+and-yes true = refl
+and-yes false = refl
+
+pub all-five : (p : ℕ → Bool) → (p 4 && (p 3 && (p 2 && (p 1 && p 0)))) ≡ allBelow 5 p
+unfolding allBelow
+all-five p = rw (and-yes (p 0))
+
+pub all-eight : (p : ℕ → Bool) → (p 7 && (p 6 && (p 5 && (p 4 && (p 3 && (p 2 && (p 1 && p 0))))))) ≡ allBelow 8 p
+unfolding allBelow
+all-eight p = rw (and-yes (p 0))
+
+-- the words of a state are five, and say that state
+pub words-five : (st : State) → length (wordsOf st) ≡ 5
+unfolding wordsOf
+words-five Closed = refl
+words-five (Reading s k o l) = refl
+words-five (Writing s p) = refl
+
+pub words-state : (st : State) → stateIn (wordsOf st) ≡ st
+unfolding wordsOf stateIn
+words-state Closed = refl
+words-state (Reading s k o l) = refl
+words-state (Writing s p) = refl
+
+-- states that test as the same are the same
+pub same-is : (a b : State) → sameState a b ≡ true → a ≡ b
+unfolding sameState sameWord
+same-is a b e = sym (words-state a) ∙ rw lists (words-state b)
+  where
+    lists : wordsOf a ≡ wordsOf b
+    lists = ext-getD 0 (wordsOf a) (wordsOf b) (words-five a ∙ sym (words-five b)) (λ j h. let n = words-five a in eqb-true (getD (wordsOf a) j 0) (getD (wordsOf b) j 0) (all-at (sameWord (wordsOf a) (wordsOf b)) 5 e j (omega arith)))
+
+pub is-same : (a : State) → sameState a a ≡ true
+unfolding sameState sameWord
+is-same a = all-of (sameWord (wordsOf a) (wordsOf a)) 5 (λ j _. eq-eqb (getD (wordsOf a) j 0) (getD (wordsOf a) j 0) refl)
+
+-- a record whose state stays keeps all its words
+pub record-keeps : (ws : List ℕ) (st : State) → stateIn ws ≡ st → recordAfter ws st ≡ ws
+unfolding recordAfter
+record-keeps ws st e = rw (e, is-same st)
+
+-- the record after a call says the state that the call leaves, and has five words
+module _ (ws : List ℕ) (st : State) where
+  pub record-says : stateIn (recordAfter ws st) ≡ st
+  unfolding recordAfter
+  record-says = go (sameState (stateIn ws) st) refl
+    where
+      go : (b : Bool) → sameState (stateIn ws) st ≡ b → stateIn (recordAfter ws st) ≡ st
+      go true e = rw e (same-is (stateIn ws) st e)
+      go false e = rw e (words-state st)
+
+  pub record-five : length ws ≡ 5 → length (recordAfter ws st) ≡ 5
+  unfolding recordAfter
+  record-five h = go (sameState (stateIn ws) st) refl
+    where
+      go : (b : Bool) → sameState (stateIn ws) st ≡ b → length (recordAfter ws st) ≡ 5
+      go true e = rw e h
+      go false e = rw e (words-five st)
+
+  -- its kind is in force again
+  pub kind-after : inForce (getD ws 0 0) ≡ true → inForce (getD (recordAfter ws st) 0 0) ≡ true
+  unfolding recordAfter wordsOf inForce
+  kind-after h = go (sameState (stateIn ws) st) refl st refl
+    where
+      go : (b : Bool) → sameState (stateIn ws) st ≡ b → (q : State) → st ≡ q → inForce (getD (recordAfter ws st) 0 0) ≡ true
+      go true e q p = rw e h
+      go false e Closed p = rw (e, p)
+      go false e (Reading s k o l) p = rw (e, p)
+      go false e (Writing s k) p = rw (e, p)
+
+-- a record has five words
+pub record-length : (ws : List ℕ) → isRecord ws ≡ true → length ws ≡ 5
+unfolding isRecord
+record-length ws e = eqb-true (length ws) 5 (and-left (eqb (length ws) 5) (inForce (getD ws 0 0)) e)

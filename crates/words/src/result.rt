@@ -1,0 +1,10 @@
+// A call's result in one u64.
+ghost use mathlib.Core.Path.{_≡_};
+ghost use Rattle.words.specs.Result.{packed};
+
+// Status and count as one number.
+pub fn pack(status: u8, count: usize) -> u64
+    ensures { λ r. ⌜ r ≡ packed status count ⌝ }
+{
+    status as u64 + 256 * (count % 0x100000000000000) as u64
+}
