@@ -5,3 +5,6 @@ pub mod Row
 pub mod Sectors
 pub mod Give
 pub mod Delete
+pub mod Step
+pub mod Effect
+pub mod Checks

@@ -1,11 +1,12 @@
--- A file sector's last bytes written: slot number, next sector, bytes in use.
+-- A file sector's last bytes written: slot number, next sector, bytes in use; and a byte added.
 use mathlib.Core.Logic.{_≢_}
-use mathlib.Core.Path.{_≡_, _∙_}
+use mathlib.Core.Path.{_≡_, ap, _∙_}
 use Prim.Native.Nat.{ℕ, _+_, _*_, _/_, _%_, _<_}
 use native.Mathlib.Omega.{arith}
 use Rattle.layout.specs.Basics.{update}
 use Rattle.layout.specs.Image.{Sector, Disk, Geometry, put}
 use Rattle.layout.specs.File.{owner, next, used, putLink, putUsed}
+use Rattle.rules.specs.Put.{addByte}
 use Rattle.layout.proofs.Update.{update-same, update-other, put-same, put-other}
 
 module _ (g : Geometry) where
@@ -89,3 +90,22 @@ module _ (g : Geometry) where
     end = next-used (linkOf r s 0) 0 ∙ next-link r s 0 (omega arith);
     empty = used-used (linkOf r s 0) 0;
   }
+
+  -- a byte added
+  module _ (d : Disk) (k x : ℕ) where
+    pub add-same : addByte g d k x k ≡ usedOf (update (d k) (used g (d k)) x) (used g (d k) + 1)
+    unfolding addByte
+    add-same = putUsed-same (put d k (used g (d k)) x) k (used g (d k) + 1) ∙ ap (λ r. usedOf r (used g (d k) + 1)) (put-same d k (used g (d k)) x)
+
+    pub add-other : (y : ℕ) → y ≢ k → addByte g d k x y ≡ d y
+    unfolding addByte
+    add-other y n = putUsed-other (put d k (used g (d k)) x) k (used g (d k) + 1) y n ∙ put-other d k (used g (d k)) x y n
+
+    pub add-owner : used g (d k) < g .room → owner g (addByte g d k x k) ≡ owner g (d k)
+    add-owner u = rw add-same (owner-used (update (d k) (used g (d k)) x) (used g (d k) + 1) ∙ owner-data (d k) (used g (d k)) x u)
+
+    pub add-next : used g (d k) < g .room → next g (addByte g d k x k) ≡ next g (d k)
+    add-next u = rw add-same (next-used (update (d k) (used g (d k)) x) (used g (d k) + 1) ∙ next-data (d k) (used g (d k)) x u)
+
+    pub add-used : used g (addByte g d k x k) ≡ used g (d k) + 1
+    add-used = rw add-same (used-used (update (d k) (used g (d k)) x) (used g (d k) + 1))
