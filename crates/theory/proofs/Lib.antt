@@ -8,3 +8,5 @@ pub mod Delete
 pub mod Step
 pub mod Effect
 pub mod Checks
+pub mod Reading
+pub mod Gets
