@@ -12,19 +12,9 @@ use Rattle.layout.specs.Basics.{member}
 use Rattle.layout.specs.Image.{Sector, Disk, Geometry}
 use Rattle.layout.specs.Volume.{dataSector, free}
 use Rattle.layout.specs.File.{owner, next, used, fits, belongs, cleanFrom, sectorsFrom, content}
-use Rattle.layout.proofs.Logic.{and-left, and-right, and-both}
+use Rattle.layout.proofs.Logic.{and-left, and-right, and-both, beq-true, true-beq}
 use Rattle.layout.proofs.Data.{data-facts}
 use Rattle.layout.proofs.Members.{Each, Distinct, no-member, member-head, member-tail, member-cons}
-
-beq-true : (a b : Bool) → Bool·beq a b ≡ true → a ≡ b
-beq-true true true h = refl
-beq-true true false h = sym h
-beq-true false true h = h
-beq-true false false h = refl
-
-true-beq : (a b : Bool) → a ≡ b → Bool·beq a b ≡ true
-true-beq true b e = rw (← e)
-true-beq false b e = rw (← e)
 
 module _ (g : Geometry) where
   -- what fits: a data sector of the slot that holds no more than there is room for
