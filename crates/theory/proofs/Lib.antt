@@ -10,3 +10,4 @@ pub mod Effect
 pub mod Checks
 pub mod Reading
 pub mod Gets
+pub mod Change
