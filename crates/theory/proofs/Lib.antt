@@ -11,3 +11,6 @@ pub mod Checks
 pub mod Reading
 pub mod Gets
 pub mod Change
+pub mod PutStep
+pub mod CommandStep
+pub mod Calls
