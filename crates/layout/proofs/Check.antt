@@ -34,3 +34,20 @@ module _ {A : Type 0} where
   pub found-nothing : (f : Found) (missing : A) (rest : ℕ → A) → f ≡ Nothing → found f missing rest ≡ missing
   unfolding found
   found-nothing f missing rest p = rw (p, found)
+
+  -- what holds of each answer holds of the call
+  module _ (P : A → Type 0) where
+    pub by-check : (b : Bool) (answer : A) (rest : Unit {0} → A) → P answer → P (rest tt) → P (check b answer rest)
+    unfolding check
+    by-check true answer rest p q = p
+    by-check false answer rest p q = q
+
+    pub by-named : (n : Name) (refusal : ℕ → A) (rest : (ℕ → ℕ) → A) → ((status : ℕ) → P (refusal status)) → ((w : ℕ → ℕ) → P (rest w)) → P (named n refusal rest)
+    unfolding named
+    by-named (Is a e) refusal rest p q = q (nameByte a e)
+    by-named (Refused status) refusal rest p q = p status
+
+    pub by-found : (f : Found) (missing : A) (rest : ℕ → A) → P missing → ((s : ℕ) → P (rest s)) → P (found f missing rest)
+    unfolding found
+    by-found (At s) missing rest p q = q s
+    by-found Nothing missing rest p q = p
