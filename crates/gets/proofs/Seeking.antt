@@ -1,0 +1,74 @@
+-- The search for the next byte: one step of it, and what it finds.
+use mathlib.Core.Bool.{true, false, not, _&&_, _||_}
+use mathlib.Core.Path.{_≡_, sym, ap, subst}
+use Prim.Native.Nat.{ℕ, suc, zero, _-_, _≤_, _<_}
+use native.Mathlib.Decide.{ℕ-discrete}
+use native.Mathlib.Omega.{arith}
+use lib.Dec.{eqb, leb, ltb}
+use borrow.Author.Tests.{ne-eqb, eqb-false, lt-ltb, ltb-true, not-true}
+use Rattle.layout.specs.Image.{Disk, Geometry}
+use Rattle.layout.specs.File.{used, fits}
+use Rattle.layout.proofs.Logic.{and-left, and-right}
+use Rattle.layout.proofs.Data.{data-facts}
+use Rattle.layout.proofs.Chain.{fits-data, fits-used}
+use Rattle.rules.specs.declared.Place.{Place}
+use Rattle.rules.specs.declared.Seek.{Seek}
+use Rattle.rules.specs.declared.Seek.the-variants.{Ready, Ended, Broken}
+use Rattle.rules.specs.Get.{place, nextToEnter, hasByte, ends, seek, readable}
+use Rattle.gets.specs.Entered.{Entered, ByteLeft, Sought}
+
+-- where the search found a byte, it is left
+pub sought-left : {g : Geometry} {d : Disk} {q : Seek} {p : Place} → q ≡ Ready p → Sought g d q → ByteLeft g d p
+sought-left {g} {d} e h = subst (λ q. Sought g d q) e h
+
+module _ (g : Geometry) (d : Disk) where
+  -- a sector that fits may be entered
+  pub fits-entered : (s k : ℕ) → fits g (d k) s k ≡ true → Entered g d k
+  fits-entered s k e = let q = data-facts k (fits-data g (d k) s k e) in record { most = omega arith; small = λ _. fits-used g (d k) s k e }
+
+  -- a get may go on from a place that is readable
+  pub readable-entered : (s k o : ℕ) → readable g d s k o ≡ true → (s < 64) × Entered g d k
+  unfolding readable
+  readable-entered s k o e = (ltb-true s 64 (and-left (ltb s 64) _ e), go (ℕ-discrete k 0) (and-right (ltb s 64) _ e))
+    where
+      go : Dec (k ≡ 0) → (eqb k 0 || fits g (d k) s k && leb o (used g (d k))) ≡ true → Entered g d k
+      go (yes z) f = record { most = omega arith; small = λ n. absurd (omega arith) }
+      go (no z) f = fits-entered s k (and-left (fits g (d k) s k) _ (rw (ne-eqb k 0 z) at f))
+
+  pub has-byte : (k o : ℕ) → 1 ≤ k → o < used g (d k) → hasByte g d k o ≡ true
+  unfolding hasByte
+  has-byte k o a b = rw (ne-eqb k 0 (λ e. omega arith), lt-ltb o (used g (d k)) b)
+
+  pub byte-left : (k o l : ℕ) → Entered g d k → hasByte g d k o ≡ true → ByteLeft g d (place k o l)
+  unfolding hasByte
+  byte-left k o l t e =
+      let n = eqb-false k 0 (not-true (eqb k 0) (and-left (not (eqb k 0)) _ e)) in
+      let low : 1 ≤ k = omega (arith, n) in
+      record { low = low; high = t .most; within = ltb-true o (used g (d k)) (and-right (not (eqb k 0)) _ e); small = t .small low }
+
+  -- a byte is left; the file ended; no sector is left to enter; the next does not fit; or it is entered
+  module _ (s k o : ℕ) where
+    pub seek-ready : (l : ℕ) → hasByte g d k o ≡ true → seek g d s k o l ≡ Ready (place k o l)
+    unfolding seek
+    seek-ready zero e = rw e
+    seek-ready (suc l) e = rw (e, seek)
+
+    pub seek-ended : (l : ℕ) → hasByte g d k o ≡ false → ends g d k ≡ true → seek g d s k o l ≡ Ended (place k o l)
+    unfolding seek
+    seek-ended zero e z = rw (e, z)
+    seek-ended (suc l) e z = rw (e, z, seek)
+
+    pub seek-out : (l : ℕ) → hasByte g d k o ≡ false → ends g d k ≡ false → l ≡ 0 → seek g d s k o l ≡ Broken (place k o l)
+    unfolding seek
+    seek-out l e z q = rw (q, e, z)
+
+    module _ (n : ℕ) (next : n ≡ nextToEnter g d s k) where
+      pub seek-not : (l : ℕ) → hasByte g d k o ≡ false → ends g d k ≡ false → fits g (d n) s n ≡ false → seek g d s k o l ≡ Broken (place k o l)
+      unfolding seek
+      seek-not zero e z f = rw (e, z)
+      seek-not (suc l) e z f = rw (e, z, ← next, f, seek)
+
+      pub seek-on : (l : ℕ) → 0 < l → hasByte g d k o ≡ false → ends g d k ≡ false → fits g (d n) s n ≡ true → seek g d s k o l ≡ seek g d s n 0 (l - 1)
+      unfolding seek
+      seek-on zero h e z f = absurd (omega arith)
+      seek-on (suc l) h e z f = let q : suc l - 1 ≡ l = omega arith in rw (q, e, z, ← next, f, seek) (ap (λ x. seek g d s x 0 l) (sym next))

@@ -1,0 +1,150 @@
+use Rattle.gets.proofs.Getting.{Gets, gets-start, gets-all, gets-ended, gets-broken, gets-run}
+use Rattle.gets.proofs.Seeking.{sought-left}
+use Rattle.gets.specs.Entered.{ByteLeft}
+use Rattle.layout.specs.Image.{single, view}
+use lib.ListN.{length}
+use native.Mathlib.Omega.{arith}
+use Prim.Native.Nat.{_-_}
+use mathlib.Core.Path.{_≡_, refl, sym, _∙_, ap}
+use borrow.Author.Needs.{needs}
+use Rattle.gets.proofs.get.get_from.Statement.{statement}
+use Rattle.gets.proofs.get.get_from.Tie as tie
+
+abbrev Inv-loop : tie.InvT-loop
+Inv-loop image slot buffer₀ p₀ i₀ buffer p i = (length buffer ≡ length buffer₀) × Gets single (view single image) slot (length buffer₀) p₀ buffer₀ p buffer i
+
+abbrev μ-loop : tie.MeasureT-loop
+μ-loop image slot buffer₀ p₀ i₀ buffer p i = length buffer₀ - i
+
+-- a byte is left where the search ended
+left : (c : tie.After-s Inv-loop μ-loop) → ByteLeft single (view single (c .before .before .before .before .before .before .before .args .image .now)) (c .s .given .0 .0)
+left c = sought-left (c .s .given .1) (c .before .before .seek-byte .ensures .1)
+
+loop-holds : tie.Need-loop-holds Inv-loop μ-loop
+loop-holds c = (refl, gets-start (c .before .before .pre .2))
+
+seek-byte-requires : tie.Need-seek-byte-requires Inv-loop μ-loop
+seek-byte-requires c κs = (omega arith, omega arith, c .before .loop .inv .1 .entered)
+
+enum-known-s : tie.Need-enum-known-s Inv-loop μ-loop
+enum-known-s c = search needs
+
+used-requires : tie.Need-used-requires Inv-loop μ-loop
+used-requires c κs = let w = left (c .before) in omega arith
+
+cast-n : tie.Need-cast-n Inv-loop μ-loop
+cast-n c = search needs
+
+sub-least : tie.Need-sub-least Inv-loop μ-loop
+sub-least c = let w = left (c .before .before) in omega arith
+
+cast-least : tie.Need-cast-least Inv-loop μ-loop
+cast-least c = let w = left (c .before .before) in omega arith
+
+sub-least-2 : tie.Need-sub-least-2 Inv-loop μ-loop
+sub-least-2 c = search needs
+
+least-requires : tie.Need-least-requires Inv-loop μ-loop
+least-requires c κs = search needs
+
+cast-get-run : tie.Need-cast-get-run Inv-loop μ-loop
+cast-get-run c = search needs
+
+get-run-requires : tie.Need-get-run-requires Inv-loop μ-loop
+get-run-requires c κs = let w = left (c .before .before .before .before) in omega arith
+
+cast-t19 : tie.Need-cast-t19 Inv-loop μ-loop
+cast-t19 c = let w = left (c .before .before .before .before .before .before .before) in omega arith
+
+add-t26 : tie.Need-add-t26 Inv-loop μ-loop
+add-t26 c = let w = left (c .before .before .before .before .before .before .before) in omega arith
+
+add-i : tie.Need-add-i Inv-loop μ-loop
+add-i c = search needs
+
+loop-less : tie.Need-loop-less Inv-loop μ-loop
+loop-less c =
+    let at = c .before .before .before .before in
+    let w = left (at .before .before .before) in omega (arith, at .least .ensures .2 (omega arith) (omega arith))
+
+loop-again : tie.Need-loop-again Inv-loop μ-loop
+loop-again c =
+    let at = c .before .before .before .before in
+    let w = left (at .before .before .before) in (
+      omega arith,
+      gets-run (at .before .before .before .before .before .before .before .loop .inv .1) _ (sym (at .before .before .before .before .before .seek-byte .ensures .0) ∙ at .before .before .before .s .given .1) w (at .least .result) (at .least .ensures .2 (omega arith) (omega arith)) (omega arith) (omega arith) _ (c .before .before .get-run .ensures),
+    )
+
+enum-known-s-2 : tie.Need-enum-known-s-2 Inv-loop μ-loop
+enum-known-s-2 c = search needs
+
+got-requires : tie.Need-got-requires Inv-loop μ-loop
+got-requires c κs = search needs
+
+same-length : tie.Need-same-length Inv-loop μ-loop
+same-length c = search needs
+
+returns : tie.Need-returns Inv-loop μ-loop
+returns c =
+    let at = c .before .before .before .before in
+    let e = gets-ended (at .before .before .loop .inv .1) (omega arith) _ (sym (at .seek-byte .ensures .0) ∙ c .before .before .s2 .given .1) in
+    (c .got .ensures ∙ sym (ap (λ o. o .got) e), sym (ap (λ o. o .buffer) e))
+
+enum-known-s-3 : tie.Need-enum-known-s-3 Inv-loop μ-loop
+enum-known-s-3 c = search needs
+
+got-requires-2 : tie.Need-got-requires-2 Inv-loop μ-loop
+got-requires-2 c κs = search needs
+
+same-length-2 : tie.Need-same-length-2 Inv-loop μ-loop
+same-length-2 c = search needs
+
+returns-2 : tie.Need-returns-2 Inv-loop μ-loop
+returns-2 c =
+    let at = c .before .before .before .before in
+    let e = gets-broken (at .before .before .loop .inv .1) (omega arith) _ (sym (at .seek-byte .ensures .0) ∙ c .before .before .s3 .given .1) in
+    (c .got2 .ensures ∙ sym (ap (λ o. o .got) e), sym (ap (λ o. o .buffer) e))
+
+got-requires-3 : tie.Need-got-requires-3 Inv-loop μ-loop
+got-requires-3 c κs = search needs
+
+same-length-3 : tie.Need-same-length-3 Inv-loop μ-loop
+same-length-3 c = search needs
+
+returns-3 : tie.Need-returns-3 Inv-loop μ-loop
+returns-3 c = let e = gets-all (c .before .before .loop .inv .1) (omega arith) in
+    (c .got3 .ensures ∙ sym (ap (λ o. o .got) e), sym (ap (λ o. o .buffer) e))
+
+pub get-from-spec : {M : Type 1} → statement M
+get-from-spec =
+    tie.close
+    (tie.spec
+    Inv-loop
+    μ-loop
+    loop-holds
+    seek-byte-requires
+    enum-known-s
+    used-requires
+    cast-n
+    sub-least
+    cast-least
+    sub-least-2
+    least-requires
+    cast-get-run
+    get-run-requires
+    cast-t19
+    add-t26
+    add-i
+    loop-less
+    loop-again
+    enum-known-s-2
+    got-requires
+    same-length
+    returns
+    enum-known-s-3
+    got-requires-2
+    same-length-2
+    returns-2
+    got-requires-3
+    same-length-3
+    returns-3)

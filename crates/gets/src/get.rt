@@ -1,0 +1,158 @@
+// Get on one channel, a sector's run of bytes at a time.
+use super::seek::fits;
+use super::seek::seek_byte;
+use image::link::used;
+use layout::State;
+use layout::status;
+use rules::Advanced;
+use rules::Got;
+use rules::Place;
+use rules::Seek;
+use runs::run::get_run;
+ghost use mathlib.Core.Path.{_≡_};
+ghost use Prim.Native.Nat.{_≤_, _<_};
+ghost use lib.ListN.{length};
+ghost use Rattle.layout.specs.Image.{single, view};
+ghost use Rattle.layout.specs.declared.State.the-variants.{Reading};
+ghost use Rattle.rules.specs.Get.{advanced, getFrom, readable, getOn};
+ghost use Rattle.gets.specs.Entered.{Entered};
+
+// The lesser of two numbers.
+fn least(a: usize, b: usize) -> usize
+    ensures { λ r. ⌜ (r ≤ a) × (r ≤ b) × (0 < a → 0 < b → 0 < r) ⌝ }
+{
+    if a < b {
+        return a;
+    }
+    b
+}
+
+// What reading bytes leaves.
+fn got(status: u8, count: usize, place: Place) -> Got
+    ensures { λ r. ⌜ r ≡ record { status = status; count = count; place = place } ⌝ }
+{
+    Got {
+        status,
+        count,
+        place,
+    }
+}
+
+// The buffer filled from a place on.
+pub fn get_from(image: &[u8], slot: u16, start: Place, buffer: &mut [u8]) -> Got
+    requires { ⌜ (length (now image) ≡ 92160) × (slot < 64) × Entered single (view single (now image)) (start .sector) ⌝ }
+    ensures { λ r. ⌜ (r ≡ getFrom single (view single (now (image .entry))) slot (length (now (buffer .entry))) 0 start (now (buffer .entry)) .got)
+        × (now (buffer .exit) ≡ getFrom single (view single (now (image .entry))) slot (length (now (buffer .entry))) 0 start (now (buffer .entry)) .buffer) ⌝ }
+{
+    let mut p = start;
+    let mut i: usize = 0;
+    while i < buffer.len() {
+        let s = seek_byte(image, slot, p);
+        match s {
+            Seek::Ready(q) => {
+                let k = q.sector;
+                let o = q.offset;
+                let l = q.left;
+                let n = used(image, k) as u16;
+                let m = least((n - o) as usize, buffer.len() - i);
+                get_run(image, k, o as usize, m, buffer, i);
+                p = Place {
+                    sector: k,
+                    offset: o + m as u16,
+                    left: l,
+                };
+                i += m;
+            }
+            Seek::Ended(q) => {
+                return got(status::END_OF_FILE, i, q);
+            }
+            Seek::Broken(q) => {
+                return got(status::BAD_CHAIN, i, q);
+            }
+        }
+    }
+    got(status::SUCCESS, i, p)
+}
+
+// The slot is at most 63, and an entered sector still fits, with the offset not above its bytes in use.
+pub fn readable(image: &[u8], slot: u16, sector: u16, offset: u16) -> bool
+    requires { ⌜ length (now image) ≡ 92160 ⌝ }
+    ensures { λ r. ⌜ r ≡ readable single (view single (now (image .entry))) slot sector offset ⌝ }
+{
+    if 64 <= slot {
+        return false;
+    }
+    if sector == 0 {
+        return true;
+    }
+    if !fits(image, slot, sector) {
+        return false;
+    }
+    offset <= used(image, sector) as u16
+}
+
+// An answer, with the reading channel after it.
+fn reading(status: u8, count: usize, slot: u16, p: Place) -> Advanced
+    ensures { λ r. ⌜ r ≡ advanced status count (Reading slot (p .sector) (p .offset) (p .left)) ⌝ }
+{
+    Advanced {
+        status,
+        count,
+        state: State::Reading {
+            slot,
+            sector: p.sector,
+            offset: p.offset,
+            left: p.left,
+        },
+    }
+}
+
+// Get on a reading channel.
+fn get_reading(image: &[u8], slot: u16, p: Place, buffer: &mut [u8]) -> Advanced
+    requires { ⌜ length (now image) ≡ 92160 ⌝ }
+    ensures { λ r. ⌜ (r ≡ getOn single (view single (now (image .entry))) (Reading slot (p .sector) (p .offset) (p .left)) (now (buffer .entry)) .answer)
+        × (now (buffer .exit) ≡ getOn single (view single (now (image .entry))) (Reading slot (p .sector) (p .offset) (p .left)) (now (buffer .entry)) .buffer) ⌝ }
+{
+    if buffer.len() == 0 {
+        return reading(status::SUCCESS, 0, slot, p);
+    }
+    if !readable(image, slot, p.sector, p.offset) {
+        return reading(status::BAD_CHAIN, 0, slot, p);
+    }
+    let got = get_from(image, slot, p, buffer);
+    let q = got.place;
+    reading(got.status, got.count, slot, q)
+}
+
+// Get on one channel fills the lent buffer.
+pub fn get_on(image: &[u8], st: State, buffer: &mut [u8]) -> Advanced
+    requires { ⌜ length (now image) ≡ 92160 ⌝ }
+    ensures { λ r. ⌜ (r ≡ getOn single (view single (now (image .entry))) st (now (buffer .entry)) .answer)
+        × (now (buffer .exit) ≡ getOn single (view single (now (image .entry))) st (now (buffer .entry)) .buffer) ⌝ }
+{
+    match st {
+        State::Closed => Advanced {
+            status: status::CHANNEL_CLOSED,
+            count: 0,
+            state: st,
+        },
+        State::Reading {
+            slot,
+            sector,
+            offset,
+            left,
+        } => {
+            let p = Place {
+                sector,
+                offset,
+                left,
+            };
+            get_reading(image, slot, p, buffer)
+        }
+        State::Writing { slot: _, last: _ } => Advanced {
+            status: status::WRITE_ONLY,
+            count: 0,
+            state: st,
+        },
+    }
+}

@@ -1,0 +1,3 @@
+// Bytes read on from a reading channel.
+pub mod get;
+pub mod seek;
