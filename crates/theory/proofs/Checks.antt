@@ -16,10 +16,14 @@ module _ {A : Type 0} (P : A → Type 0) where
   by-check true answer rest p q = p refl
   by-check false answer rest p q = q refl
 
-  pub by-named : (n : Name) (refusal : ℕ → A) (rest : (ℕ → ℕ) → A) → ((status : ℕ) → P (refusal status)) → ((a e : ℕ) → n ≡ Is a e → P (rest (nameByte a e))) → P (named n refusal rest)
+  pub by-name : (n : Name) (refusal : ℕ → A) (rest : (ℕ → ℕ) → A) → ((status : ℕ) → n ≡ Refused status → P (refusal status)) → ((a e : ℕ) → n ≡ Is a e → P (rest (nameByte a e))) → P (named n refusal rest)
   unfolding named
-  by-named (Is a e) refusal rest p q = q a e refl
-  by-named (Refused status) refusal rest p q = p status
+  by-name (Is a e) refusal rest p q = q a e refl
+  by-name (Refused status) refusal rest p q = p status refl
+
+  -- where the refusal's number does not matter
+  pub by-named : (n : Name) (refusal : ℕ → A) (rest : (ℕ → ℕ) → A) → ((status : ℕ) → P (refusal status)) → ((a e : ℕ) → n ≡ Is a e → P (rest (nameByte a e))) → P (named n refusal rest)
+  by-named n refusal rest p q = by-name n refusal rest (λ status _. p status) q
 
   pub by-found : (f : Found) (missing : A) (rest : ℕ → A) → (f ≡ Nothing → P missing) → ((s : ℕ) → f ≡ At s → P (rest s)) → P (found f missing rest)
   unfolding found

@@ -14,3 +14,4 @@ pub mod Change
 pub mod PutStep
 pub mod CommandStep
 pub mod Calls
+pub mod Deleted
