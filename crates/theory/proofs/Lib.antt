@@ -15,3 +15,5 @@ pub mod PutStep
 pub mod CommandStep
 pub mod Calls
 pub mod Deleted
+pub mod SoundDir
+pub mod SoundChan

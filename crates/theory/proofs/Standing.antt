@@ -67,6 +67,9 @@ module _ (d : Disk) (s : ℕ) where
   unfolding sameName sameByte
   bytes-same w f = all-of (sameByte d s w) 11 (λ j l. eq-eqb (name d s j) (w j) (f j l))
 
+  pub same-as : (v w : ℕ → ℕ) → ((j : ℕ) → j < 11 → v j ≡ w j) → sameName d s v ≡ true → sameName d s w ≡ true
+  same-as v w f h = bytes-same w (λ j l. same-bytes v h j l ∙ f j l)
+
 -- two slots that have the name w have the same name
 pub same-names : (d e : Disk) (s x : ℕ) (w : ℕ → ℕ) → sameName d s w ≡ true → sameName e x w ≡ true → SameName d s e x
 same-names d e s x w p q = bytes-same d s (name e x) (λ j l. same-bytes d s w p j l ∙ sym (same-bytes e x w q j l))
