@@ -7,7 +7,7 @@
 
 use crate::directory::{flag, OUTPUT};
 use crate::disk::Disk;
-use crate::fault::Fault;
+use crate::fault::{Fault, Variant};
 use crate::status::Status;
 use crate::Model;
 
@@ -106,15 +106,15 @@ pub(crate) fn held(disk: &Disk, table: &Table, slot: u8) -> bool {
     flag(disk, slot) & OUTPUT != 0 || named(table, slot)
 }
 
-impl<const FAULT: u8> Model<FAULT> {
+impl<V: Variant> Model<V> {
     /// Writes a channel back. One that is as it was keeps all five words.
-    pub(crate) fn store(record: &mut Record, before: Channel, after: Channel) {
-        if after == before && !Self::wrong(Fault::UnusedWordsCleared) {
+    pub(crate) fn store(self, record: &mut Record, before: Channel, after: Channel) {
+        if after == before && !self.wrong(Fault::UnusedWordsCleared) {
             return;
         }
         let words = *record;
         *record = after.record();
-        if Self::wrong(Fault::ClosedKeepsWords) && after == Channel::Closed {
+        if self.wrong(Fault::ClosedKeepsWords) && after == Channel::Closed {
             record[1..].copy_from_slice(&words[1..]);
         }
     }

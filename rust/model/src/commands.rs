@@ -6,7 +6,7 @@ use crate::directory::{
     OUTPUT_FILE, SLOTS,
 };
 use crate::disk::Disk;
-use crate::fault::Fault;
+use crate::fault::{Fault, Variant};
 use crate::status::{Outcome, Status};
 use crate::Model;
 
@@ -75,9 +75,10 @@ impl Direction {
     }
 }
 
-impl<const FAULT: u8> Model<FAULT> {
+impl<V: Variant> Model<V> {
     /// The checks that every command makes, then the command.
     pub(crate) fn run_cio(
+        self,
         image: &mut [u8],
         table: &mut [u16],
         request: Request,
@@ -85,34 +86,34 @@ impl<const FAULT: u8> Model<FAULT> {
     ) -> Outcome {
         let table = as_table(table)?;
         let number = usize::from(request.channel);
-        if Self::wrong(Fault::ChannelBeforeImage) && number >= CHANNELS {
+        if self.wrong(Fault::ChannelBeforeImage) && number >= CHANNELS {
             return Err(Status::NoSuchChannel.into());
         }
         let disk: &mut Disk = image.try_into().map_err(|_| Status::WrongImage)?;
         let record = *table.get(number).ok_or(Status::NoSuchChannel)?;
-        let command = Self::command(request.command)?;
+        let command = self.command(request.command)?;
         let before = Channel::of(record).ok_or(Status::Malformed)?;
-        Self::require_closed(table, before, command)?;
+        self.require_closed(table, before, command)?;
         let mut channel = before;
         let outcome = match command {
-            Command::Open => Self::open(disk, table, &request, &mut channel),
-            Command::Get => Self::get_from(disk, &mut channel, buffer),
-            Command::Put => Self::put_to(disk, &mut channel, buffer),
-            Command::Close => Self::close(disk, &mut channel),
-            Command::Status => Self::status(disk, request.name),
-            Command::Rename => Self::rename(disk, table, request.name),
-            Command::Delete => Self::delete(disk, table, request.name),
-            Command::Lock => Self::set_lock(disk, table, request.name, LOCKED),
-            Command::Unlock => Self::set_lock(disk, table, request.name, 0),
-            Command::Format => Self::format(disk, table, request.name),
+            Command::Open => self.open(disk, table, &request, &mut channel),
+            Command::Get => self.get_from(disk, &mut channel, buffer),
+            Command::Put => self.put_to(disk, &mut channel, buffer),
+            Command::Close => self.close(disk, &mut channel),
+            Command::Status => self.status(disk, request.name),
+            Command::Rename => self.rename(disk, table, request.name),
+            Command::Delete => self.delete(disk, table, request.name),
+            Command::Lock => self.set_lock(disk, table, request.name, LOCKED),
+            Command::Unlock => self.set_lock(disk, table, request.name, 0),
+            Command::Format => self.format(disk, table, request.name),
         };
-        Self::store(&mut table[number], before, channel);
+        self.store(&mut table[number], before, channel);
         outcome
     }
 
     /// 132, 168.
-    fn command(number: u8) -> Result<Command, Status> {
-        if Self::wrong(Fault::NoSuchReserved) && number < 3 {
+    fn command(self, number: u8) -> Result<Command, Status> {
+        if self.wrong(Fault::NoSuchReserved) && number < 3 {
             return Err(Status::WrongCommand);
         }
         Command::of(number)
@@ -120,9 +121,14 @@ impl<const FAULT: u8> Model<FAULT> {
 
     /// 129, then 161, which no call can meet: where all eight channels are open, so is the one
     /// to be opened.
-    fn require_closed(table: &Table, channel: Channel, command: Command) -> Result<(), Status> {
+    fn require_closed(
+        self,
+        table: &Table,
+        channel: Channel,
+        command: Command,
+    ) -> Result<(), Status> {
         let all_open = command == Command::Open && table.iter().all(|record| record[0] != 0);
-        if Self::wrong(Fault::AllOpenFirst) && all_open {
+        if self.wrong(Fault::AllOpenFirst) && all_open {
             return Err(Status::AllChannelsOpen);
         }
         if command.needs_closed() && channel != Channel::Closed {
@@ -135,24 +141,30 @@ impl<const FAULT: u8> Model<FAULT> {
     }
 
     /// Open, in one of its two directions.
-    fn open(disk: &mut Disk, table: &Table, request: &Request, channel: &mut Channel) -> Outcome {
-        if Self::wrong(Fault::DirectionAfterName) {
-            Self::file_name(request.name)?;
+    fn open(
+        self,
+        disk: &mut Disk,
+        table: &Table,
+        request: &Request,
+        channel: &mut Channel,
+    ) -> Outcome {
+        if self.wrong(Fault::DirectionAfterName) {
+            self.file_name(request.name)?;
         }
         let direction = Direction::of(request.direction)?;
-        let name = Self::file_name(request.name)?;
+        let name = self.file_name(request.name)?;
         *channel = match direction {
-            Direction::Read => Channel::Reading(Self::open_read(disk, table, &name)?),
-            Direction::Write => Channel::Writing(Self::open_write(disk, table, &name)?),
+            Direction::Read => Channel::Reading(self.open_read(disk, table, &name)?),
+            Direction::Write => Channel::Writing(self.open_write(disk, table, &name)?),
         };
         Ok(0)
     }
 
     /// Open for reading: before the first byte, with the slot's count of sectors yet to enter.
     /// It is refused with 200 only for a file open for output.
-    fn open_read(disk: &Disk, table: &Table, name: &Name) -> Result<Reading, Status> {
-        let slot = Self::find(disk, name).ok_or(Status::NotFound)?;
-        let named = Self::wrong(Fault::OpenOfRead) && named(table, slot);
+    fn open_read(self, disk: &Disk, table: &Table, name: &Name) -> Result<Reading, Status> {
+        let slot = self.find(disk, name).ok_or(Status::NotFound)?;
+        let named = self.wrong(Fault::OpenOfRead) && named(table, slot);
         if flag(disk, slot) & OUTPUT != 0 || named {
             return Err(Status::Held);
         }
@@ -166,23 +178,23 @@ impl<const FAULT: u8> Model<FAULT> {
 
     /// Open for writing: frees the found file's chain and keeps its slot, or takes a new slot;
     /// then flag `$43` and one sector.
-    fn open_write(disk: &mut Disk, table: &Table, name: &Name) -> Result<Writing, Status> {
-        Self::require_good_table(disk)?;
-        let slot = match Self::find(disk, name) {
+    fn open_write(self, disk: &mut Disk, table: &Table, name: &Name) -> Result<Writing, Status> {
+        self.require_good_table(disk)?;
+        let slot = match self.find(disk, name) {
             Some(slot) => {
-                Self::require_unlocked_unheld(disk, table, slot)?;
-                Self::require_clean_chain(disk, slot)?;
-                Self::free_chain(disk, slot);
+                self.require_unlocked_unheld(disk, table, slot)?;
+                self.require_clean_chain(disk, slot)?;
+                self.free_chain(disk, slot);
                 slot
             }
             None => {
-                let slot = Self::slot_for_new_file(disk, table)?;
+                let slot = self.slot_for_new_file(disk, table)?;
                 set_slot_name(disk, slot, name);
                 slot
             }
         };
         set_flag(disk, slot, OUTPUT_FILE);
-        let last = Self::give_out(disk, slot, None, 0).ok_or(Status::NoSector)?;
+        let last = self.give_out(disk, slot, None, 0).ok_or(Status::NoSector)?;
         Ok(Writing {
             slot: slot.into(),
             last,
@@ -190,12 +202,12 @@ impl<const FAULT: u8> Model<FAULT> {
     }
 
     /// The lowest slot that is deleted or zero and named by no channel, if a sector is free too.
-    fn slot_for_new_file(disk: &Disk, table: &Table) -> Result<u8, Status> {
+    fn slot_for_new_file(self, disk: &Disk, table: &Table) -> Result<u8, Status> {
         let slot = (0..SLOTS)
             .filter(|&slot| flag(disk, slot) == 0 || flag(disk, slot) & DELETED != 0)
-            .find(|&slot| !named(table, slot) || Self::wrong(Fault::HeldSlotTaken));
-        let sector = Self::lowest_free(disk, 0);
-        if Self::wrong(Fault::NoSectorFirst) && sector.is_none() {
+            .find(|&slot| !named(table, slot) || self.wrong(Fault::HeldSlotTaken));
+        let sector = self.lowest_free(disk, 0);
+        if self.wrong(Fault::NoSectorFirst) && sector.is_none() {
             return Err(Status::NoSector);
         }
         let slot = slot.ok_or(Status::NoSlot)?;
@@ -205,39 +217,40 @@ impl<const FAULT: u8> Model<FAULT> {
 
     /// Close frees the channel whatever it answers. A writing one's flag `$43` becomes `$42`;
     /// without that flag, or with a slot above 63, the answer is 164.
-    fn close(disk: &mut Disk, channel: &mut Channel) -> Outcome {
+    fn close(self, disk: &mut Disk, channel: &mut Channel) -> Outcome {
         let Channel::Writing(writing) = *channel else {
             *channel = Channel::Closed;
             return Ok(0);
         };
         let slot = as_slot(writing.slot).filter(|&slot| flag(disk, slot) == OUTPUT_FILE);
-        if slot.is_some() || !Self::wrong(Fault::CloseKeepsChannel) {
+        if slot.is_some() || !self.wrong(Fault::CloseKeepsChannel) {
             *channel = Channel::Closed;
         }
         let slot = slot.ok_or(Status::WrongChain)?;
-        if !Self::wrong(Fault::OutputFlagKept) {
+        if !self.wrong(Fault::OutputFlagKept) {
             set_flag(disk, slot, FILE);
         }
         Ok(0)
     }
 
     /// Status of a name: 170, 167 or 1.
-    fn status(disk: &Disk, name: &[u8]) -> Outcome {
-        let name = Self::file_name(name)?;
-        let slot = Self::find(disk, &name).ok_or(Status::NotFound)?;
-        if flag(disk, slot) & LOCKED != 0 && !Self::wrong(Fault::StatusOfLocked) {
+    fn status(self, disk: &Disk, name: &[u8]) -> Outcome {
+        let name = self.file_name(name)?;
+        let slot = self.find(disk, &name).ok_or(Status::NotFound)?;
+        if flag(disk, slot) & LOCKED != 0 && !self.wrong(Fault::StatusOfLocked) {
             return Err(Status::Locked.into());
         }
         Ok(0)
     }
 
     /// Rename writes the eleven bytes.
-    fn rename(disk: &mut Disk, table: &Table, names: &[u8]) -> Outcome {
-        let (old, new) = Self::two_names(names)?;
-        let slot = Self::found_on_good_table(disk, &old)?;
-        Self::require_unlocked_unheld(disk, table, slot)?;
-        let taken = Self::standing(disk)
-            .filter(|&other| other != slot || Self::wrong(Fault::SameNameTaken))
+    fn rename(self, disk: &mut Disk, table: &Table, names: &[u8]) -> Outcome {
+        let (old, new) = self.two_names(names)?;
+        let slot = self.found_on_good_table(disk, &old)?;
+        self.require_unlocked_unheld(disk, table, slot)?;
+        let taken = self
+            .standing(disk)
+            .filter(|&other| other != slot || self.wrong(Fault::SameNameTaken))
             .any(|other| slot_name(disk, other) == new);
         if taken {
             return Err(Status::NameTaken.into());
@@ -247,17 +260,17 @@ impl<const FAULT: u8> Model<FAULT> {
     }
 
     /// Delete frees the chain and sets the flag to `$80`; all else in the slot stays.
-    fn delete(disk: &mut Disk, table: &Table, name: &[u8]) -> Outcome {
-        let name = Self::file_name(name)?;
-        let slot = Self::found_on_good_table(disk, &name)?;
-        Self::require_unlocked_unheld(disk, table, slot)?;
-        let clean = Self::require_clean_chain(disk, slot);
+    fn delete(self, disk: &mut Disk, table: &Table, name: &[u8]) -> Outcome {
+        let name = self.file_name(name)?;
+        let slot = self.found_on_good_table(disk, &name)?;
+        self.require_unlocked_unheld(disk, table, slot)?;
+        let clean = self.require_clean_chain(disk, slot);
         if clean.is_ok() {
-            Self::free_chain(disk, slot);
-        } else if !Self::wrong(Fault::DeleteWithoutChain) {
+            self.free_chain(disk, slot);
+        } else if !self.wrong(Fault::DeleteWithoutChain) {
             clean?;
         }
-        let kept = if Self::wrong(Fault::DeleteKeepsFlag) {
+        let kept = if self.wrong(Fault::DeleteKeepsFlag) {
             flag(disk, slot)
         } else {
             0
@@ -267,16 +280,16 @@ impl<const FAULT: u8> Model<FAULT> {
     }
 
     /// Lock sets `$20`, unlock clears it. A locked file is not refused.
-    fn set_lock(disk: &mut Disk, table: &Table, name: &[u8], lock: u8) -> Outcome {
-        let name = Self::file_name(name)?;
-        let slot = Self::found_on_good_table(disk, &name)?;
-        if Self::wrong(Fault::LockOfLocked) && flag(disk, slot) & LOCKED != 0 {
+    fn set_lock(self, disk: &mut Disk, table: &Table, name: &[u8], lock: u8) -> Outcome {
+        let name = self.file_name(name)?;
+        let slot = self.found_on_good_table(disk, &name)?;
+        if self.wrong(Fault::LockOfLocked) && flag(disk, slot) & LOCKED != 0 {
             return Err(Status::Locked.into());
         }
         if held(disk, table, slot) {
             return Err(Status::Held.into());
         }
-        let lock = if Self::wrong(Fault::LockClears) {
+        let lock = if self.wrong(Fault::LockClears) {
             0
         } else {
             lock
@@ -286,37 +299,37 @@ impl<const FAULT: u8> Model<FAULT> {
     }
 
     /// Format: `D:` alone, and no channel open.
-    fn format(disk: &mut Disk, table: &Table, name: &[u8]) -> Outcome {
-        Self::device_alone(name)?;
+    fn format(self, disk: &mut Disk, table: &Table, name: &[u8]) -> Outcome {
+        self.device_alone(name)?;
         let open = table.iter().any(|record| record[0] != 0);
-        if open && !Self::wrong(Fault::FormatUnderChannel) {
+        if open && !self.wrong(Fault::FormatUnderChannel) {
             return Err(Status::Held.into());
         }
-        Self::clear(disk);
+        self.clear(disk);
         Ok(0)
     }
 
     /// 163.
-    pub(crate) fn require_good_table(disk: &Disk) -> Result<(), Status> {
-        Self::table_is_good(disk)
+    pub(crate) fn require_good_table(self, disk: &Disk) -> Result<(), Status> {
+        self.table_is_good(disk)
             .then_some(())
             .ok_or(Status::WrongVolumeTable)
     }
 
     /// 163, then 170.
-    fn found_on_good_table(disk: &Disk, name: &Name) -> Result<u8, Status> {
-        let found = Self::find(disk, name).ok_or(Status::NotFound);
-        if Self::wrong(Fault::SearchBeforeTable) {
+    fn found_on_good_table(self, disk: &Disk, name: &Name) -> Result<u8, Status> {
+        let found = self.find(disk, name).ok_or(Status::NotFound);
+        if self.wrong(Fault::SearchBeforeTable) {
             found?;
         }
-        Self::require_good_table(disk)?;
+        self.require_good_table(disk)?;
         found
     }
 
     /// 167, then 200.
-    fn require_unlocked_unheld(disk: &Disk, table: &Table, slot: u8) -> Result<(), Status> {
+    fn require_unlocked_unheld(self, disk: &Disk, table: &Table, slot: u8) -> Result<(), Status> {
         let held = held(disk, table, slot);
-        if Self::wrong(Fault::HeldBeforeLocked) && held {
+        if self.wrong(Fault::HeldBeforeLocked) && held {
             return Err(Status::Held);
         }
         if flag(disk, slot) & LOCKED != 0 {
@@ -329,8 +342,8 @@ impl<const FAULT: u8> Model<FAULT> {
     }
 
     /// 164.
-    fn require_clean_chain(disk: &Disk, slot: u8) -> Result<(), Status> {
-        Self::chain_is_clean(disk, slot, false)
+    fn require_clean_chain(self, disk: &Disk, slot: u8) -> Result<(), Status> {
+        self.chain_is_clean(disk, slot, false)
             .then_some(())
             .ok_or(Status::WrongChain)
     }

@@ -1,7 +1,7 @@
 //! "The disk": the directory, sectors 361 to 368.
 
 use crate::disk::{set_word, word, Disk, SECTOR};
-use crate::fault::Fault;
+use crate::fault::{Fault, Variant};
 use crate::Model;
 
 /// The directory, as a place in the image: sectors 361 to 368.
@@ -75,20 +75,18 @@ pub(crate) fn as_slot(number: u16) -> Option<u8> {
     u8::try_from(number).ok().filter(|&slot| slot < SLOTS)
 }
 
-impl<const FAULT: u8> Model<FAULT> {
+impl<V: Variant> Model<V> {
     /// The standing slots in order: `$40` set, `$80` clear, and no earlier flag zero.
-    pub(crate) fn standing(disk: &Disk) -> impl Iterator<Item = u8> + '_ {
+    pub(crate) fn standing(self, disk: &Disk) -> impl Iterator<Item = u8> + '_ {
         (0..SLOTS)
-            .take_while(|&slot| flag(disk, slot) != 0 || Self::wrong(Fault::SearchPastZero))
+            .take_while(move |&slot| flag(disk, slot) != 0 || self.wrong(Fault::SearchPastZero))
             .filter(|&slot| flag(disk, slot) & (IN_USE | DELETED) == IN_USE)
     }
 
     /// The first standing slot with the name.
-    pub(crate) fn find(disk: &Disk, name: &Name) -> Option<u8> {
-        Self::standing(disk)
-            .filter(|&slot| {
-                !Self::wrong(Fault::SearchSkipsOutput) || flag(disk, slot) & OUTPUT == 0
-            })
+    pub(crate) fn find(self, disk: &Disk, name: &Name) -> Option<u8> {
+        self.standing(disk)
+            .filter(|&slot| !self.wrong(Fault::SearchSkipsOutput) || flag(disk, slot) & OUTPUT == 0)
             .find(|&slot| slot_name(disk, slot) == *name)
     }
 }

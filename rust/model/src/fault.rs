@@ -1,22 +1,44 @@
 //! Wrong variants of the model: what a comparison must be able to notice.
 //!
-//! `Model<0>` is right. `Model<F>`, for the number `F` of a [`Fault`], makes that one mistake.
-//! The switch is a constant, so the right model carries no trace of it when compiled.
+//! `Model(Right)` is right. `Model(fault)`, for one of the [`Fault`]s, makes that one mistake.
+//! [`Right`] answers as a constant that it makes none, so the right model carries no trace of
+//! the others when compiled.
 
 use crate::Model;
 
-/// Declares the faults, numbered from 1 in order, and the list of their texts.
+/// How a model is wrong, if it is.
+pub trait Variant: Copy + 'static {
+    /// Does this variant make the mistake?
+    fn has(self, fault: Fault) -> bool;
+}
+
+/// The variant without a mistake.
+#[derive(Clone, Copy, Debug)]
+pub struct Right;
+
+impl Variant for Right {
+    #[inline(always)]
+    fn has(self, _: Fault) -> bool {
+        false
+    }
+}
+
+impl Variant for Fault {
+    fn has(self, fault: Fault) -> bool {
+        self == fault
+    }
+}
+
+/// Declares the faults, and the list of their texts.
 macro_rules! faults {
     ($($name:ident: $text:literal,)*) => {
+        /// The mistakes that a model can make.
         #[derive(Clone, Copy, Debug, PartialEq, Eq)]
-        #[repr(u8)]
         pub enum Fault {
-            /// No fault.
-            None,
             $(#[doc = $text] $name,)*
         }
 
-        /// Every fault with what it does wrong; its number is its place in the list, plus one.
+        /// Every fault with what it does wrong.
         pub const FAULTS: &[(Fault, &str)] = &[$((Fault::$name, $text),)*];
     };
 }
@@ -24,7 +46,7 @@ macro_rules! faults {
 faults! {
     // The volume table.
     MapFromLowEnd: "map bits are counted from the low end",
-    GoodWithoutReserved: "a table with the directory's sectors marked free is good",
+    GoodWithoutReserved: "a table with sector 368 marked free is good",
     GoodWithoutCount: "the free count is not compared with the map",
     FreeCountNotLowered: "giving out a sector does not lower the free count",
     FreeCountNotRaised: "freeing a chain does not raise the free count",
@@ -101,9 +123,10 @@ faults! {
     RefusedNameWritten: "a refused name blanks the eleven bytes",
 }
 
-impl<const FAULT: u8> Model<FAULT> {
-    /// Does this variant make the mistake?
-    pub(crate) const fn wrong(fault: Fault) -> bool {
-        FAULT == fault as u8
+impl<V: Variant> Model<V> {
+    /// Does this model make the mistake?
+    #[inline(always)]
+    pub(crate) fn wrong(self, fault: Fault) -> bool {
+        self.0.has(fault)
     }
 }

@@ -2,7 +2,7 @@
 
 use crate::directory::{count, first, set_count, set_first};
 use crate::disk::{is_data_sector, sector_start, Disk, DATA, DATA_SECTORS};
-use crate::fault::Fault;
+use crate::fault::{Fault, Variant};
 use crate::volume::{free_count, set_free_count};
 use crate::Model;
 
@@ -17,12 +17,12 @@ pub(crate) struct Tail {
     pub used: u8,
 }
 
-impl<const FAULT: u8> Model<FAULT> {
+impl<V: Variant> Model<V> {
     /// Reads a sector's last three bytes.
-    pub(crate) fn tail(disk: &Disk, sector: u16) -> Tail {
+    pub(crate) fn tail(self, disk: &Disk, sector: u16) -> Tail {
         let at = sector_start(sector) + DATA;
         let [high, low, used] = *disk[at..].first_chunk().expect("a sector of the disk");
-        if Self::wrong(Fault::HighLinkBits) {
+        if self.wrong(Fault::HighLinkBits) {
             return Tail {
                 slot: high & 63,
                 next: u16::from_be_bytes([high >> 6, low]),
@@ -37,10 +37,10 @@ impl<const FAULT: u8> Model<FAULT> {
     }
 
     /// Writes a sector's slot number and next sector.
-    fn set_link(disk: &mut Disk, sector: u16, slot: u8, next: u16) {
+    fn set_link(self, disk: &mut Disk, sector: u16, slot: u8, next: u16) {
         let at = sector_start(sector) + DATA;
         let [high, low] = next.to_be_bytes();
-        disk[at] = if Self::wrong(Fault::HighLinkBits) {
+        disk[at] = if self.wrong(Fault::HighLinkBits) {
             high << 6 | slot
         } else {
             slot << 2 | high
@@ -50,30 +50,30 @@ impl<const FAULT: u8> Model<FAULT> {
 
     /// What is asked of every sector of a slot's chain: a data sector that carries the slot
     /// number and holds at most 125 bytes. Answers its last three bytes.
-    pub(crate) fn file_sector(disk: &Disk, slot: u8, sector: u16) -> Option<Tail> {
+    pub(crate) fn file_sector(self, disk: &Disk, slot: u8, sector: u16) -> Option<Tail> {
         if !is_data_sector(sector) {
             return None;
         }
-        let tail = Self::tail(disk, sector);
+        let tail = self.tail(disk, sector);
         (tail.slot == slot && usize::from(tail.used) <= DATA).then_some(tail)
     }
 
     /// The slot's chain is *clean*: its count n is 1 to 707 and n steps from the first sector
     /// meet only sectors as above that are marked as asked for, the last of them and no other
     /// having next sector 0. A standing file's sectors are used, a deleted one's are free.
-    pub(crate) fn chain_is_clean(disk: &Disk, slot: u8, free: bool) -> bool {
+    pub(crate) fn chain_is_clean(self, disk: &Disk, slot: u8, free: bool) -> bool {
         let left = count(disk, slot);
-        if left == 0 || left > DATA_SECTORS - u16::from(Self::wrong(Fault::LongestChain)) {
+        if left == 0 || left > DATA_SECTORS - u16::from(self.wrong(Fault::LongestChain)) {
             return false;
         }
         let mut sector = first(disk, slot);
         for left in (0..left).rev() {
-            let tail = match Self::file_sector(disk, slot, sector) {
+            let tail = match self.file_sector(disk, slot, sector) {
                 Some(tail) => tail,
-                None if Self::ignores_slot_number(disk, sector, free) => Self::tail(disk, sector),
+                None if self.ignores_slot_number(disk, sector, free) => self.tail(disk, sector),
                 None => return false,
             };
-            if Self::is_free(disk, sector) != free && !Self::wrong(Fault::ChainUnmarked) {
+            if self.is_free(disk, sector) != free && !self.wrong(Fault::ChainUnmarked) {
                 return false;
             }
             if (tail.next == 0) != (left == 0) {
@@ -85,41 +85,41 @@ impl<const FAULT: u8> Model<FAULT> {
     }
 
     /// The two faults that walk over sectors of other slots.
-    fn ignores_slot_number(disk: &Disk, sector: u16, free: bool) -> bool {
+    fn ignores_slot_number(self, disk: &Disk, sector: u16, free: bool) -> bool {
         let fault = if free {
             Fault::RecoverAnySlotNumber
         } else {
             Fault::ChainWithoutSlot
         };
-        Self::wrong(fault)
+        self.wrong(fault)
             && is_data_sector(sector)
-            && usize::from(Self::tail(disk, sector).used) <= DATA
+            && usize::from(self.tail(disk, sector).used) <= DATA
     }
 
     /// Frees a clean chain: its map bits and the free count change, nothing else.
-    pub(crate) fn free_chain(disk: &mut Disk, slot: u8) {
-        let count = Self::mark_chain(disk, slot, Self::mark_free);
-        if !Self::wrong(Fault::FreeCountNotRaised) {
+    pub(crate) fn free_chain(self, disk: &mut Disk, slot: u8) {
+        let count = self.mark_chain(disk, slot, |disk, sector| self.mark_free(disk, sector));
+        if !self.wrong(Fault::FreeCountNotRaised) {
             set_free_count(disk, free_count(disk).wrapping_add(count));
         }
     }
 
     /// Marks the sectors of a clean chain used and lowers the free count; answers how many.
-    pub(crate) fn take_back_chain(disk: &mut Disk, slot: u8) -> u16 {
-        let count = Self::mark_chain(disk, slot, Self::mark_used);
-        if !Self::wrong(Fault::RecoverCountKept) {
+    pub(crate) fn take_back_chain(self, disk: &mut Disk, slot: u8) -> u16 {
+        let count = self.mark_chain(disk, slot, |disk, sector| self.mark_used(disk, sector));
+        if !self.wrong(Fault::RecoverCountKept) {
             set_free_count(disk, free_count(disk).wrapping_sub(count));
         }
         count
     }
 
     /// Marks every sector of a clean chain; answers how many there are.
-    fn mark_chain(disk: &mut Disk, slot: u8, mark: impl Fn(&mut Disk, u16)) -> u16 {
+    fn mark_chain(self, disk: &mut Disk, slot: u8, mark: impl Fn(&mut Disk, u16)) -> u16 {
         let count = count(disk, slot);
         let mut sector = first(disk, slot);
         for _ in 0..count {
             mark(disk, sector);
-            sector = Self::tail(disk, sector).next;
+            sector = self.tail(disk, sector).next;
         }
         count
     }
@@ -129,17 +129,18 @@ impl<const FAULT: u8> Model<FAULT> {
     /// bit, the free count, the slot's count, the link and its own last three bytes are written in
     /// this order.
     pub(crate) fn give_out(
+        self,
         disk: &mut Disk,
         slot: u8,
         before: Option<u16>,
         from: usize,
     ) -> Option<u16> {
-        let sector = Self::lowest_free(disk, from)?;
-        Self::mark_used(disk, sector);
-        if !Self::wrong(Fault::FreeCountNotLowered) {
+        let sector = self.lowest_free(disk, from)?;
+        self.mark_used(disk, sector);
+        if !self.wrong(Fault::FreeCountNotLowered) {
             set_free_count(disk, free_count(disk).wrapping_sub(1));
         }
-        let more = before.is_some() || Self::wrong(Fault::CountKept);
+        let more = before.is_some() || self.wrong(Fault::CountKept);
         set_count(
             disk,
             slot,
@@ -150,11 +151,11 @@ impl<const FAULT: u8> Model<FAULT> {
             },
         );
         match before {
-            Some(before) => Self::set_link(disk, before, slot, sector),
+            Some(before) => self.set_link(disk, before, slot, sector),
             None => set_first(disk, slot, sector),
         }
-        Self::set_link(disk, sector, slot, 0);
-        if !Self::wrong(Fault::BytesInUseKept) {
+        self.set_link(disk, sector, slot, 0);
+        if !self.wrong(Fault::BytesInUseKept) {
             set_used(disk, sector, 0);
         }
         Some(sector)

@@ -31,7 +31,7 @@
 //! assert_eq!(model::cio(&mut image, &mut table, 0, 11, 0, b"", &mut bytes), 1 + 256 * 5);
 //! ```
 //!
-//! [`Model`] has a constant parameter that makes it wrong in one chosen way; see [`fault`].
+//! [`Model`] has a parameter that makes it wrong in one chosen way; see [`fault`].
 
 #![forbid(unsafe_code)]
 
@@ -50,18 +50,22 @@ pub mod status;
 mod transfer;
 pub mod volume;
 
+use fault::{Right, Variant};
 use status::number;
 
-/// The seven calls. `FAULT` 0 does what the paper says; any other number makes the mistake that
-/// [`fault::FAULTS`] lists under it.
-pub struct Model<const FAULT: u8>;
+/// The seven calls. `Model(Right)` does what the paper says; `Model(fault)` makes one of the
+/// mistakes of [`Fault`](fault::Fault).
+#[derive(Clone, Copy)]
+pub struct Model<V: Variant>(pub V);
 
 /// The model that does what the paper says.
-pub type Right = Model<0>;
+pub const RIGHT: Model<Right> = Model(Right);
 
-impl<const FAULT: u8> Model<FAULT> {
+impl<V: Variant> Model<V> {
     /// Carries out one CIO command on a channel of the table.
+    #[allow(clippy::too_many_arguments)]
     pub fn cio(
+        self,
         image: &mut [u8],
         table: &mut [u16],
         channel: u8,
@@ -76,16 +80,17 @@ impl<const FAULT: u8> Model<FAULT> {
             direction,
             name,
         };
-        number(Self::run_cio(image, table, request, buffer))
+        number(self.run_cio(image, table, request, buffer))
     }
 
     /// Takes back a deleted file; the count is the number of its sectors.
-    pub fn recover(image: &mut [u8], slot: u8) -> u64 {
-        number(Self::run_recover(image, slot))
+    pub fn recover(self, image: &mut [u8], slot: u8) -> u64 {
+        number(self.run_recover(image, slot))
     }
 
     /// Reads (`$52`) or writes (`$50`, `$57`) one sector.
     pub fn sector(
+        self,
         image: &mut [u8],
         device: u8,
         unit: u8,
@@ -93,33 +98,31 @@ impl<const FAULT: u8> Model<FAULT> {
         sector: u16,
         buffer: &mut [u8],
     ) -> u64 {
-        number(Self::run_sector(
-            image, device, unit, command, sector, buffer,
-        ))
+        number(self.run_sector(image, device, unit, command, sector, buffer))
     }
 
     /// Where the bytes in use of one sector are: 1, and above its eight bits the offset in the
     /// image * 1024 + the length; or 0.
-    pub fn show(image: &[u8], slot: u8, sector: u16) -> u64 {
-        match Self::shown(image, slot, sector) {
+    pub fn show(self, image: &[u8], slot: u8, sector: u16) -> u64 {
+        match self.shown(image, slot, sector) {
             Some(part) => 1 + 256 * (1024 * part.start + part.len()) as u64,
             None => 0,
         }
     }
 
     /// A get that advances one lent channel record of five words.
-    pub fn thin_get(image: &[u8], words: &mut [u16], buffer: &mut [u8]) -> u64 {
-        number(Self::run_thin_get(image, words, buffer))
+    pub fn thin_get(self, image: &[u8], words: &mut [u16], buffer: &mut [u8]) -> u64 {
+        number(self.run_thin_get(image, words, buffer))
     }
 
     /// A put that advances one lent channel record of five words.
-    pub fn thin_put(image: &mut [u8], words: &mut [u16], buffer: &[u8]) -> u64 {
-        number(Self::run_thin_put(image, words, buffer))
+    pub fn thin_put(self, image: &mut [u8], words: &mut [u16], buffer: &[u8]) -> u64 {
+        number(self.run_thin_put(image, words, buffer))
     }
 
     /// Takes a name apart into its eleven padded bytes, or answers its refusal.
-    pub fn name(name: &[u8], eleven: &mut [u8]) -> u64 {
-        number(Self::run_name(name, eleven))
+    pub fn name(self, name: &[u8], eleven: &mut [u8]) -> u64 {
+        number(self.run_name(name, eleven))
     }
 }
 
@@ -133,12 +136,12 @@ pub fn cio(
     name: &[u8],
     buffer: &mut [u8],
 ) -> u64 {
-    Right::cio(image, table, channel, command, direction, name, buffer)
+    RIGHT.cio(image, table, channel, command, direction, name, buffer)
 }
 
 /// [`Model::recover`] without a fault.
 pub fn recover(image: &mut [u8], slot: u8) -> u64 {
-    Right::recover(image, slot)
+    RIGHT.recover(image, slot)
 }
 
 /// [`Model::sector`] without a fault.
@@ -150,25 +153,25 @@ pub fn sector(
     sector: u16,
     buffer: &mut [u8],
 ) -> u64 {
-    Right::sector(image, device, unit, command, sector, buffer)
+    RIGHT.sector(image, device, unit, command, sector, buffer)
 }
 
 /// [`Model::show`] without a fault.
 pub fn show(image: &[u8], slot: u8, sector: u16) -> u64 {
-    Right::show(image, slot, sector)
+    RIGHT.show(image, slot, sector)
 }
 
 /// [`Model::thin_get`] without a fault.
 pub fn thin_get(image: &[u8], words: &mut [u16], buffer: &mut [u8]) -> u64 {
-    Right::thin_get(image, words, buffer)
+    RIGHT.thin_get(image, words, buffer)
 }
 
 /// [`Model::thin_put`] without a fault.
 pub fn thin_put(image: &mut [u8], words: &mut [u16], buffer: &[u8]) -> u64 {
-    Right::thin_put(image, words, buffer)
+    RIGHT.thin_put(image, words, buffer)
 }
 
 /// [`Model::name`] without a fault.
 pub fn name(name: &[u8], eleven: &mut [u8]) -> u64 {
-    Right::name(name, eleven)
+    RIGHT.name(name, eleven)
 }

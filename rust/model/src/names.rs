@@ -5,7 +5,7 @@
 //! ending byte is not looked at.
 
 use crate::directory::Name;
-use crate::fault::Fault;
+use crate::fault::{Fault, Variant};
 use crate::status::{Outcome, Status};
 use crate::Model;
 
@@ -19,13 +19,13 @@ const fn is_name_byte(byte: u8) -> bool {
     matches!(byte, b'A'..=b'Z' | b'0'..=b'9')
 }
 
-impl<const FAULT: u8> Model<FAULT> {
+impl<V: Variant> Model<V> {
     /// Takes off the device. No `D`, or no colon behind it or behind one digit, is 130; a digit
     /// other than 1 is 160.
-    fn behind_device(name: &[u8]) -> Result<&[u8], Status> {
+    fn behind_device(self, name: &[u8]) -> Result<&[u8], Status> {
         match name {
             [b'D', b':', rest @ ..] | [b'D', b'1', b':', rest @ ..] => Ok(rest),
-            [b'D', b'0'..=b'9', b':', ..] if !Self::wrong(Fault::OtherDriveNoDevice) => {
+            [b'D', b'0'..=b'9', b':', ..] if !self.wrong(Fault::OtherDriveNoDevice) => {
                 Err(Status::NoSuchDrive)
             }
             _ => Err(Status::NoSuchDevice),
@@ -33,17 +33,17 @@ impl<const FAULT: u8> Model<FAULT> {
     }
 
     /// Pads the text of a file name to its eleven bytes.
-    fn eleven(text: &[u8]) -> Result<Name, Status> {
+    fn eleven(self, text: &[u8]) -> Result<Name, Status> {
         let (stem, extension) = match text.iter().position(|&byte| byte == b'.') {
             Some(point) => (&text[..point], &text[point + 1..]),
             None => (text, &[][..]),
         };
         let stem = match stem {
-            [first @ .., _] if Self::wrong(Fault::NinthLetter) && stem.len() == 9 => first,
+            [first @ .., _] if self.wrong(Fault::NinthLetter) && stem.len() == 9 => first,
             _ => stem,
         };
         let begins = match stem.first() {
-            Some(byte) => byte.is_ascii_uppercase() || Self::wrong(Fault::DigitFirst),
+            Some(byte) => byte.is_ascii_uppercase() || self.wrong(Fault::DigitFirst),
             None => false,
         };
         if !begins || stem.len() > 8 || extension.len() > 3 {
@@ -59,30 +59,30 @@ impl<const FAULT: u8> Model<FAULT> {
     }
 
     /// The text up to its ending byte.
-    fn ended(bytes: &[u8]) -> Result<&[u8], Status> {
+    fn ended(self, bytes: &[u8]) -> Result<&[u8], Status> {
         match bytes.iter().position(|&byte| is_ending(byte)) {
             Some(end) => Ok(&bytes[..end]),
-            None if Self::wrong(Fault::NoEndingByte) => Ok(bytes),
+            None if self.wrong(Fault::NoEndingByte) => Ok(bytes),
             None => Err(Status::WrongName),
         }
     }
 
     /// The name of one file.
-    pub(crate) fn file_name(name: &[u8]) -> Result<Name, Status> {
-        Self::eleven(Self::ended(Self::behind_device(name)?)?)
+    pub(crate) fn file_name(self, name: &[u8]) -> Result<Name, Status> {
+        self.eleven(self.ended(self.behind_device(name)?)?)
     }
 
     /// The two names of `D:OLD,NEW`. The first ends at the comma only, the second, which has no
     /// device, as names do.
-    pub(crate) fn two_names(names: &[u8]) -> Result<(Name, Name), Status> {
-        let names = Self::behind_device(names)?;
+    pub(crate) fn two_names(self, names: &[u8]) -> Result<(Name, Name), Status> {
+        let names = self.behind_device(names)?;
         let comma = names
             .iter()
             .position(|&byte| byte == b',')
             .ok_or(Status::WrongName)?;
-        let old = Self::eleven(&names[..comma])?;
-        let mut new = Self::eleven(Self::ended(&names[comma + 1..])?)?;
-        if Self::wrong(Fault::ZeroPadding) {
+        let old = self.eleven(&names[..comma])?;
+        let mut new = self.eleven(self.ended(&names[comma + 1..])?)?;
+        if self.wrong(Fault::ZeroPadding) {
             new.iter_mut()
                 .filter(|byte| **byte == b' ')
                 .for_each(|byte| *byte = 0);
@@ -91,20 +91,20 @@ impl<const FAULT: u8> Model<FAULT> {
     }
 
     /// `D:` alone, as format takes it.
-    pub(crate) fn device_alone(name: &[u8]) -> Result<(), Status> {
-        match Self::behind_device(name)? {
+    pub(crate) fn device_alone(self, name: &[u8]) -> Result<(), Status> {
+        match self.behind_device(name)? {
             [end, ..] if is_ending(*end) => Ok(()),
             _ => Err(Status::WrongName),
         }
     }
 
     /// The call that takes a name apart. The eleven bytes stay as they were with a refusal.
-    pub(crate) fn run_name(name: &[u8], eleven: &mut [u8]) -> Outcome {
+    pub(crate) fn run_name(self, name: &[u8], eleven: &mut [u8]) -> Outcome {
         let eleven: &mut Name = eleven.try_into().map_err(|_| Status::Malformed)?;
-        if Self::wrong(Fault::RefusedNameWritten) {
+        if self.wrong(Fault::RefusedNameWritten) {
             *eleven = [b' '; 11];
         }
-        *eleven = Self::file_name(name)?;
+        *eleven = self.file_name(name)?;
         Ok(0)
     }
 }

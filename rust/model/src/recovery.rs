@@ -2,34 +2,36 @@
 
 use crate::directory::{flag, set_flag, slot_name, DELETED, FILE, SLOTS};
 use crate::disk::Disk;
-use crate::fault::Fault;
+use crate::fault::{Fault, Variant};
 use crate::names::is_legal;
 use crate::status::{Outcome, Status};
 use crate::Model;
 
-impl<const FAULT: u8> Model<FAULT> {
+impl<V: Variant> Model<V> {
     /// In order: 203; 170 for a slot above 63, at or past the first zero flag, or not deleted;
     /// 163; 165; 201; 202. The count is the number of sectors taken back.
-    pub(crate) fn run_recover(image: &mut [u8], slot: u8) -> Outcome {
+    pub(crate) fn run_recover(self, image: &mut [u8], slot: u8) -> Outcome {
         let disk: &mut Disk = image.try_into().map_err(|_| Status::WrongImage)?;
-        if !Self::is_deleted(disk, slot) {
+        if !self.is_deleted(disk, slot) {
             return Err(Status::NotFound.into());
         }
-        Self::require_good_table(disk)?;
+        self.require_good_table(disk)?;
         let name = slot_name(disk, slot);
-        if !is_legal(&name) && !Self::wrong(Fault::RecoverIllegalName) {
+        if !is_legal(&name) && !self.wrong(Fault::RecoverIllegalName) {
             return Err(Status::WrongName.into());
         }
-        let taken = Self::standing(disk).any(|other| slot_name(disk, other) == name);
-        if taken && !Self::wrong(Fault::RecoverTakenName) {
+        let taken = self
+            .standing(disk)
+            .any(|other| slot_name(disk, other) == name);
+        if taken && !self.wrong(Fault::RecoverTakenName) {
             return Err(Status::NameTaken.into());
         }
-        if !Self::chain_is_clean(disk, slot, true) {
+        if !self.chain_is_clean(disk, slot, true) {
             return Err(Status::NotRecoverable.into());
         }
-        let count = Self::take_back_chain(disk, slot);
+        let count = self.take_back_chain(disk, slot);
         set_flag(disk, slot, FILE);
-        Ok(if Self::wrong(Fault::RecoverFixedCount) {
+        Ok(if self.wrong(Fault::RecoverFixedCount) {
             1
         } else {
             count.into()
@@ -37,9 +39,9 @@ impl<const FAULT: u8> Model<FAULT> {
     }
 
     /// A slot of the directory with `$80`, before the first zero flag.
-    fn is_deleted(disk: &Disk, slot: u8) -> bool {
+    fn is_deleted(self, disk: &Disk, slot: u8) -> bool {
         slot < SLOTS
-            && (Self::wrong(Fault::RecoverPastZero) || (0..slot).all(|slot| flag(disk, slot) != 0))
+            && (self.wrong(Fault::RecoverPastZero) || (0..slot).all(|slot| flag(disk, slot) != 0))
             && flag(disk, slot) & DELETED != 0
     }
 }

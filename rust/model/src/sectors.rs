@@ -1,7 +1,7 @@
 //! "Sectors": the two SIO sector commands.
 
 use crate::disk::{sector_start, Disk, SECTOR, SECTORS};
-use crate::fault::Fault;
+use crate::fault::{Fault, Variant};
 use crate::status::{Outcome, Status};
 use crate::Model;
 
@@ -9,10 +9,11 @@ use crate::Model;
 const DEVICE: u8 = 0x31;
 const UNIT: u8 = 1;
 
-impl<const FAULT: u8> Model<FAULT> {
+impl<V: Variant> Model<V> {
     /// 203; 138 for another device or unit; 139 for another command or no sector of the disk; 204
     /// for a buffer that is not a sector long. `$50` and `$57` have the same effect.
     pub(crate) fn run_sector(
+        self,
         image: &mut [u8],
         device: u8,
         unit: u8,
@@ -24,10 +25,10 @@ impl<const FAULT: u8> Model<FAULT> {
         if device != DEVICE || unit != UNIT {
             return Err(Status::WrongUnit.into());
         }
-        if Self::wrong(Fault::BufferFirst) && buffer.len() != SECTOR {
+        if self.wrong(Fault::BufferFirst) && buffer.len() != SECTOR {
             return Err(Status::WrongBuffer.into());
         }
-        let last = SECTORS - u16::from(Self::wrong(Fault::LastSector));
+        let last = SECTORS - u16::from(self.wrong(Fault::LastSector));
         if !matches!(command, 0x50 | 0x52 | 0x57) || !(1..=last).contains(&sector) {
             return Err(Status::WrongSector.into());
         }
@@ -37,7 +38,7 @@ impl<const FAULT: u8> Model<FAULT> {
         if command == 0x52 {
             buffer.copy_from_slice(place);
         } else {
-            let written = SECTOR - usize::from(Self::wrong(Fault::WriteShort));
+            let written = SECTOR - usize::from(self.wrong(Fault::WriteShort));
             place[..written].copy_from_slice(&buffer[..written]);
         }
         Ok(SECTOR)

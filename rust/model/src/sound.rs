@@ -7,7 +7,7 @@ use crate::channel::{Channel, Reading, Table, Writing, CHANNELS};
 use crate::directory::{count, first, flag, slot_name, DELETED, FILE, LOCKED, OUTPUT_FILE, SLOTS};
 use crate::disk::{is_data_sector, Disk, SECTORS};
 use crate::names::is_legal;
-use crate::Right;
+use crate::RIGHT;
 
 /// The lent image and table are sound.
 pub fn is_sound(image: &[u8], table: &[u16]) -> bool {
@@ -25,7 +25,7 @@ pub fn is_sound(image: &[u8], table: &[u16]) -> bool {
         return false;
     }
     let channels = channels.map(|channel| channel.unwrap_or(Channel::Closed));
-    Right::table_is_good(disk)
+    RIGHT.table_is_good(disk)
         && flags_are_sound(disk)
         && names_are_sound(disk)
         && chains_are_sound(disk)
@@ -45,17 +45,17 @@ fn flags_are_sound(disk: &Disk) -> bool {
 
 /// Standing names are legal and all different.
 fn names_are_sound(disk: &Disk) -> bool {
-    Right::standing(disk).all(|slot| {
+    RIGHT.standing(disk).all(|slot| {
         let name = slot_name(disk, slot);
-        is_legal(&name) && Right::find(disk, &name) == Some(slot)
+        is_legal(&name) && RIGHT.find(disk, &name) == Some(slot)
     })
 }
 
 /// Every standing chain is clean, and every used data sector is on one.
 fn chains_are_sound(disk: &Disk) -> bool {
     let mut on_chain = [false; SECTORS as usize];
-    for slot in Right::standing(disk) {
-        if !Right::chain_is_clean(disk, slot, false) {
+    for slot in RIGHT.standing(disk) {
+        if !RIGHT.chain_is_clean(disk, slot, false) {
             return false;
         }
         for sector in chain(disk, slot) {
@@ -64,13 +64,13 @@ fn chains_are_sound(disk: &Disk) -> bool {
     }
     (0..SECTORS)
         .filter(|&sector| is_data_sector(sector))
-        .all(|sector| Right::is_free(disk, sector) || on_chain[usize::from(sector)])
+        .all(|sector| RIGHT.is_free(disk, sector) || on_chain[usize::from(sector)])
 }
 
 /// The sectors of a clean chain in order.
 fn chain(disk: &Disk, slot: u8) -> impl Iterator<Item = u16> + '_ {
     std::iter::successors(Some(first(disk, slot)), |&sector| {
-        Some(Right::tail(disk, sector).next).filter(|&next| next != 0)
+        Some(RIGHT.tail(disk, sector).next).filter(|&next| next != 0)
     })
 }
 
@@ -93,10 +93,12 @@ fn output_is_sound(disk: &Disk, channels: &[Channel; CHANNELS]) -> bool {
 fn channel_is_sound(disk: &Disk, channel: Channel) -> bool {
     match channel {
         Channel::Closed => true,
-        Channel::Writing(Writing { slot, last }) => Right::standing(disk)
+        Channel::Writing(Writing { slot, last }) => RIGHT
+            .standing(disk)
             .filter(|&standing| flag(disk, standing) == OUTPUT_FILE)
             .any(|standing| slot == standing.into() && chain(disk, standing).last() == Some(last)),
-        Channel::Reading(reading) => Right::standing(disk)
+        Channel::Reading(reading) => RIGHT
+            .standing(disk)
             .filter(|&standing| flag(disk, standing) != OUTPUT_FILE)
             .any(|standing| reading.slot == standing.into() && is_on(disk, standing, reading)),
     }
@@ -117,6 +119,6 @@ fn is_on(disk: &Disk, slot: u8, reading: Reading) -> bool {
     let Some(place) = chain(disk, slot).position(|on| on == sector) else {
         return false;
     };
-    offset <= Right::tail(disk, sector).used.into()
+    offset <= RIGHT.tail(disk, sector).used.into()
         && usize::from(left) == usize::from(count(disk, slot)) - 1 - place
 }

@@ -2,8 +2,8 @@
 
 use crate::directory::DIRECTORY_END;
 use crate::disk::{set_word, word, Disk, DATA_SECTORS, IMAGE, SECTOR};
-use crate::fault::Fault;
-use crate::Model;
+use crate::fault::{Fault, Variant};
+use crate::{Model, RIGHT};
 
 /// The sector of the volume table, as a place in the image.
 const TABLE: usize = 359 * SECTOR;
@@ -21,17 +21,19 @@ pub(crate) fn set_free_count(disk: &mut Disk, count: u16) {
     set_word(disk, TABLE + 3, count);
 }
 
-impl<const FAULT: u8> Model<FAULT> {
+impl<V: Variant> Model<V> {
     /// Map bytes with the bits that stand for no data sector: 0 to 3 and 360 to 368.
-    const RESERVED: [(usize, u8); 3] = if Self::wrong(Fault::MapFromLowEnd) {
-        [(0, 0x0f), (45, 0xff), (46, 0x01)]
-    } else {
-        [(0, 0xf0), (45, 0xff), (46, 0x80)]
-    };
+    fn reserved(self) -> [(usize, u8); 3] {
+        if self.wrong(Fault::MapFromLowEnd) {
+            [(0, 0x0f), (45, 0xff), (46, 0x01)]
+        } else {
+            [(0, 0xf0), (45, 0xff), (46, 0x80)]
+        }
+    }
 
     /// The place of a sector in the map: the byte of the image, and its bit.
-    fn map_bit(sector: u16) -> (usize, u8) {
-        let bit = if Self::wrong(Fault::MapFromLowEnd) {
+    fn map_bit(self, sector: u16) -> (usize, u8) {
+        let bit = if self.wrong(Fault::MapFromLowEnd) {
             1 << (sector % 8)
         } else {
             0x80 >> (sector % 8)
@@ -40,30 +42,30 @@ impl<const FAULT: u8> Model<FAULT> {
     }
 
     /// One in the map means free.
-    pub(crate) fn is_free(disk: &Disk, sector: u16) -> bool {
-        let (at, bit) = Self::map_bit(sector);
+    pub(crate) fn is_free(self, disk: &Disk, sector: u16) -> bool {
+        let (at, bit) = self.map_bit(sector);
         disk[at] & bit != 0
     }
 
-    pub(crate) fn mark_free(disk: &mut Disk, sector: u16) {
-        let (at, bit) = Self::map_bit(sector);
+    pub(crate) fn mark_free(self, disk: &mut Disk, sector: u16) {
+        let (at, bit) = self.map_bit(sector);
         disk[at] |= bit;
     }
 
-    pub(crate) fn mark_used(disk: &mut Disk, sector: u16) {
-        let (at, bit) = Self::map_bit(sector);
+    pub(crate) fn mark_used(self, disk: &mut Disk, sector: u16) {
+        let (at, bit) = self.map_bit(sector);
         disk[at] &= !bit;
     }
 
     /// The lowest free sector, looked for from the given byte of the map.
-    pub(crate) fn lowest_free(disk: &Disk, from: usize) -> Option<u16> {
+    pub(crate) fn lowest_free(self, disk: &Disk, from: usize) -> Option<u16> {
         let map = &disk[MAP..MAP + MAP_BYTES];
-        if Self::wrong(Fault::HighestFree) {
+        if self.wrong(Fault::HighestFree) {
             let byte = map.iter().rposition(|&bits| bits != 0)?;
             return Some(8 * byte as u16 + 7 - map[byte].trailing_zeros() as u16);
         }
         let byte = from + map[from..].iter().position(|&bits| bits != 0)?;
-        let bit = if Self::wrong(Fault::MapFromLowEnd) {
+        let bit = if self.wrong(Fault::MapFromLowEnd) {
             map[byte].trailing_zeros()
         } else {
             map[byte].leading_zeros()
@@ -73,26 +75,21 @@ impl<const FAULT: u8> Model<FAULT> {
 
     /// The table is *good*: byte 0 and the 707 are right, the bits of sectors that are no data
     /// sectors are zero, and the free count equals the number of ones in the map.
-    pub fn table_is_good(disk: &Disk) -> bool {
+    pub fn table_is_good(self, disk: &Disk) -> bool {
         let map = &disk[MAP..MAP + MAP_BYTES];
-        let reserved = Self::RESERVED
-            .iter()
-            .take(if Self::wrong(Fault::GoodWithoutReserved) {
-                1
-            } else {
-                3
-            })
-            .all(|&(byte, bits)| map[byte] & bits == 0);
-        let ones: u32 = map.iter().map(|bits| bits.count_ones()).sum();
+        let mut reserved = self.reserved().into_iter();
+        if self.wrong(Fault::GoodWithoutReserved) {
+            reserved.next_back();
+        }
         disk[TABLE] == 2
             && word(disk, TABLE + 1) == DATA_SECTORS
-            && reserved
-            && (ones == u32::from(free_count(disk)) || Self::wrong(Fault::GoodWithoutCount))
+            && reserved.all(|(byte, bits)| map[byte] & bits == 0)
+            && (ones(map) == free_count(disk).into() || self.wrong(Fault::GoodWithoutCount))
     }
 
     /// A fresh disk: all zero but a good table with 707 free.
-    pub(crate) fn clear(disk: &mut Disk) {
-        if Self::wrong(Fault::FormatKeepsData) {
+    pub(crate) fn clear(self, disk: &mut Disk) {
+        if self.wrong(Fault::FormatKeepsData) {
             disk[TABLE..DIRECTORY_END].fill(0);
         } else {
             disk.fill(0);
@@ -102,7 +99,7 @@ impl<const FAULT: u8> Model<FAULT> {
         set_free_count(disk, DATA_SECTORS);
         let map = &mut disk[MAP..MAP + MAP_BYTES];
         map.fill(0xff);
-        for (byte, bits) in Self::RESERVED {
+        for (byte, bits) in self.reserved() {
             map[byte] &= !bits;
         }
     }
@@ -111,6 +108,16 @@ impl<const FAULT: u8> Model<FAULT> {
 /// The image of a fresh disk.
 pub fn fresh() -> Vec<u8> {
     let mut disk = Box::new([0; IMAGE]);
-    Model::<0>::clear(&mut disk);
+    RIGHT.clear(&mut disk);
     disk.to_vec()
+}
+
+/// The number of ones, counted eight bytes at a time.
+fn ones(map: &[u8]) -> u32 {
+    let (words, rest) = map.as_chunks();
+    let words = words
+        .iter()
+        .map(|&word| u64::from_ne_bytes(word).count_ones());
+    let rest = rest.iter().map(|bits| bits.count_ones());
+    words.chain(rest).sum()
 }

@@ -1,0 +1,328 @@
+//! Calls of every kind.
+
+use model::directory::{first, flag, DELETED, SLOTS};
+use model::disk::{is_data_sector, sector_start};
+
+use crate::step::{Buffer, Call};
+use crate::world::World;
+
+use super::Generator;
+
+/// Kinds of calls.
+#[derive(Clone, Copy, PartialEq, Eq)]
+enum Kind {
+    OpenRead,
+    OpenWrite,
+    OpenOther,
+    Get,
+    Put,
+    Close,
+    Status,
+    Rename,
+    Delete,
+    Lock,
+    Unlock,
+    Format,
+    Other,
+    Recover,
+    Sector,
+    Show,
+    ThinGet,
+    ThinPut,
+    Name,
+}
+
+const KINDS: &[(usize, Kind)] = &[
+    (90, Kind::OpenRead),
+    (110, Kind::OpenWrite),
+    (10, Kind::OpenOther),
+    (140, Kind::Get),
+    (140, Kind::Put),
+    (90, Kind::Close),
+    (35, Kind::Status),
+    (60, Kind::Rename),
+    (80, Kind::Delete),
+    (30, Kind::Lock),
+    (30, Kind::Unlock),
+    (8, Kind::Format),
+    (20, Kind::Other),
+    (80, Kind::Recover),
+    (30, Kind::Sector),
+    (25, Kind::Show),
+    (35, Kind::ThinGet),
+    (35, Kind::ThinPut),
+    (25, Kind::Name),
+];
+
+impl Generator {
+    /// A call that suits the world, or nearly.
+    pub(super) fn call(&mut self, world: &World) -> Call {
+        let kind = self.random.weighted(KINDS);
+        if self.style.sound && matches!(kind, Kind::ThinGet | Kind::ThinPut) {
+            return self.call(world);
+        }
+        let kind = if self.random.chance(850) {
+            possible(world, kind)
+        } else {
+            kind
+        };
+        match kind {
+            Kind::Recover => Call::Recover {
+                slot: self.deleted_slot(world),
+            },
+            Kind::Sector => self.sector_call(world),
+            Kind::Show => self.showing(world),
+            Kind::ThinGet => {
+                let words = self.thin_record(world, 1);
+                Call::ThinGet {
+                    words,
+                    buffer: self.get_buffer(),
+                }
+            }
+            Kind::ThinPut => {
+                let words = self.thin_record(world, 2);
+                Call::ThinPut {
+                    words,
+                    buffer: self.put_buffer(),
+                }
+            }
+            Kind::Name => self.name_call(world),
+            _ => self.cio(world, kind),
+        }
+    }
+
+    /// A CIO command. What it does not need is random.
+    fn cio(&mut self, world: &World, kind: Kind) -> Call {
+        let command = match kind {
+            Kind::OpenRead | Kind::OpenWrite | Kind::OpenOther => 3,
+            Kind::Get => 7,
+            Kind::Put => 11,
+            Kind::Close => 12,
+            Kind::Status => 13,
+            Kind::Rename => 32,
+            Kind::Delete => 33,
+            Kind::Lock => 35,
+            Kind::Unlock => 36,
+            Kind::Format => 254,
+            _ => self.other_command(),
+        };
+        let direction = match kind {
+            Kind::OpenRead => 4,
+            Kind::OpenWrite => 8,
+            _ => self.random.pick(&[0, 4, 5, 6, 8, 9, 12, 255]),
+        };
+        let name = match kind {
+            Kind::Rename => self.two_names(world),
+            Kind::Format => self.device_alone(world),
+            Kind::Get | Kind::Put | Kind::Close if self.random.chance(900) => Vec::new(),
+            Kind::OpenWrite => self.name(world, 400),
+            _ => self.name(world, 750),
+        };
+        let channel = self.channel(world, kind);
+        let buffer = match kind {
+            Kind::Get if self.random.chance(100) => {
+                Buffer::Fill(rest_of_sector(world, channel), self.random.byte())
+            }
+            Kind::Get => self.get_buffer(),
+            Kind::Put => self.put_buffer(),
+            _ if self.random.chance(900) => Buffer::Fill(0, 0),
+            _ => self.get_buffer(),
+        };
+        Call::Cio {
+            channel,
+            command,
+            direction,
+            name,
+            buffer,
+        }
+    }
+
+    /// A command that is not listed.
+    fn other_command(&mut self) -> u8 {
+        let near = [
+            0, 1, 2, 4, 5, 6, 8, 9, 10, 14, 31, 34, 37, 38, 39, 40, 253, 255,
+        ];
+        self.random.pick(&near)
+    }
+
+    /// A channel in the state that the command needs, or now and then any.
+    fn channel(&mut self, world: &World, kind: Kind) -> u8 {
+        let suits = |record: [u16; 5]| match kind {
+            Kind::Get => record[0] == 1,
+            Kind::Put => record[0] == 2,
+            Kind::Close => record[0] != 0,
+            _ => record[0] == 0,
+        };
+        let suited: Vec<u8> = (0..8)
+            .filter(|&channel| suits(world.record(channel.into())))
+            .collect();
+        if !suited.is_empty() && !self.random.chance(self.style.misfits) {
+            return self.random.pick(&suited);
+        }
+        if self.random.chance(150) {
+            return self.random.pick(&[8, 9, 16, 128, 255]);
+        }
+        self.random.below(8) as u8
+    }
+
+    fn get_buffer(&mut self) -> Buffer {
+        let length = match self.random.below(100) {
+            0..6 => 0,
+            6..25 => self.random.between(1, 5),
+            25..40 => self.random.between(120, 130),
+            40..50 => self.random.between(245, 255),
+            50..75 => self.random.between(1, 400),
+            75..96 => self.random.between(1, 3000),
+            _ => 90_000,
+        };
+        Buffer::Fill(length, self.random.byte())
+    }
+
+    fn put_buffer(&mut self) -> Buffer {
+        let length = match self.random.below(100) {
+            0..6 => 0,
+            6..25 => self.random.between(1, 5),
+            25..40 => self.random.between(120, 130),
+            40..50 => self.random.between(245, 255),
+            50..80 => self.random.between(1, 400),
+            80..95 => self.random.between(1, 3000),
+            95..98 => self.random.between(1, 40_000),
+            _ => 90_000,
+        };
+        if length <= 3000 && self.random.chance(800) {
+            Buffer::Bytes(self.random.bytes(length))
+        } else {
+            Buffer::Fill(length, self.random.byte())
+        }
+    }
+
+    fn deleted_slot(&mut self, world: &World) -> u8 {
+        match self.random.below(20) {
+            0 => self.random.pick(&[63, 64, 65, 128, 255]),
+            1..3 => self.some_slot(world),
+            _ => self.slot_that(world, |flag| flag & DELETED != 0),
+        }
+    }
+
+    fn sector_call(&mut self, world: &World) -> Call {
+        let device = self.random.weighted(&[(95, 0x31), (3, 0x30), (2, 0)]);
+        let unit = self.random.weighted(&[(95, 1), (3, 2), (2, 0)]);
+        let commands: &[(usize, u8)] = if self.style.sound {
+            &[(90, 0x52), (5, 0x51), (5, 0x21)]
+        } else {
+            &[
+                (30, 0x52),
+                (30, 0x50),
+                (30, 0x57),
+                (4, 0x51),
+                (3, 0x53),
+                (3, 0),
+            ]
+        };
+        let command = self.random.weighted(commands);
+        let sector = match self.random.below(10) {
+            0..5 => {
+                let slot = self.some_slot(world);
+                self.sector_of(world, slot)
+            }
+            5 => self.random.pick(&[0, 1, 720, 721]),
+            6 => self.random.between(360, 368) as u16,
+            _ => self.random.between(1, 720) as u16,
+        };
+        let length = self
+            .random
+            .weighted(&[(90, 128), (3, 127), (3, 129), (2, 0), (2, 256)]);
+        let mut bytes = self.random.bytes(length);
+        // A sector written mostly has the bytes it had, but for one.
+        if length == 128 && (1..=720).contains(&sector) && self.random.chance(700) {
+            let at = usize::from(sector - 1) * 128;
+            bytes.copy_from_slice(&world.disk()[at..at + 128]);
+            let place = self.random.pick(&[0, 3, 64, 124, 127]);
+            bytes[place] = self.random.byte();
+        }
+        Call::Sector {
+            device,
+            unit,
+            command,
+            sector,
+            buffer: Buffer::Bytes(bytes),
+        }
+    }
+
+    fn showing(&mut self, world: &World) -> Call {
+        let slot = self.some_slot(world);
+        let sector = self.sector_of(world, slot);
+        let slot = match self.random.below(10) {
+            0 => self.random.pick(&[0, 63, 64, slot + 64, 255]),
+            _ => slot,
+        };
+        Call::Show { slot, sector }
+    }
+
+    /// A record for a thin call that wants the kind: a channel's of the table, or any.
+    fn thin_record(&mut self, world: &World, kind: u16) -> Vec<u16> {
+        let records: Vec<[u16; 5]> = (0..8)
+            .map(|channel| world.record(channel))
+            .filter(|record| record[0] == kind)
+            .collect();
+        let mut record = if !records.is_empty() && self.random.chance(500) {
+            self.random.pick(&records)
+        } else {
+            self.some_record(world)
+        };
+        record[0] = self.random.weighted(&[(75, kind), (10, 3 - kind), (15, 0)]);
+        let mut words = record.to_vec();
+        match self.random.below(100) {
+            0 => words.truncate(self.random.below(5)),
+            1 => words.push(0),
+            2 => words[0] = self.random.pick(&[3, 256, 65535]),
+            _ => (),
+        }
+        words
+    }
+
+    fn name_call(&mut self, world: &World) -> Call {
+        let name = self.name(world, 300);
+        let length = self.random.weighted(&[(95, 11), (2, 10), (2, 12), (1, 0)]);
+        Call::Name {
+            name,
+            eleven: Buffer::Bytes(self.random.bytes(length)),
+        }
+    }
+}
+
+/// The kind of call, or where it would find nothing to do, the one that makes it possible.
+fn possible(world: &World, kind: Kind) -> Kind {
+    let has_channel = |wanted| (0..8).any(|channel| world.record(channel)[0] == wanted);
+    let disk = world.disk();
+    let has_deleted = || (0..SLOTS).any(|slot| flag(disk, slot) & DELETED != 0);
+    let has_file = || flag(disk, 0) != 0;
+    match kind {
+        Kind::Get if !has_channel(1) => Kind::OpenRead,
+        Kind::Put if !has_channel(2) => Kind::OpenWrite,
+        Kind::Recover if !has_deleted() => Kind::Delete,
+        Kind::Rename | Kind::Delete | Kind::Lock | Kind::Unlock | Kind::OpenRead if !has_file() => {
+            Kind::OpenWrite
+        }
+        kind => kind,
+    }
+}
+
+/// The bytes that a reading channel has not yet handed out of the sector it is on, or of its
+/// slot's first sector before any.
+fn rest_of_sector(world: &World, channel: u8) -> usize {
+    let [_, slot, sector, offset, _] = match channel {
+        0..8 => world.record(channel.into()),
+        _ => return 1,
+    };
+    let disk = world.disk();
+    let (sector, offset) = match sector {
+        0 if slot < u16::from(SLOTS) => (first(disk, slot as u8), 0),
+        _ => (sector, offset),
+    };
+    if !is_data_sector(sector) {
+        return 1;
+    }
+    let used = disk[sector_start(sector) + 127];
+    usize::from(used).saturating_sub(offset.into())
+}

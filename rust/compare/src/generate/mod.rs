@@ -1,0 +1,268 @@
+//! Random cases: lists of calls on fresh, filled and damaged disks.
+//!
+//! A case is made step by step. Each step is chosen with a look at the disk as it is, so that
+//! most calls find something to do: a closed channel for an open, a name that is there, a sector
+//! on a chain to damage. The rest go wrong on purpose, so that every status comes often.
+
+mod calls;
+mod damage;
+mod names;
+mod set_up;
+
+use std::collections::VecDeque;
+
+use model::directory::{count, first, flag, SLOTS};
+use model::disk::{is_data_sector, DATA_SECTORS, SECTORS};
+use model::RIGHT;
+
+use crate::random::Random;
+use crate::step::{Call, Lengths, Step, TABLE};
+use crate::world::World;
+
+/// What kind of steps a case has.
+struct Style {
+    /// Nothing is changed by hand, and no call made that can harm a disk.
+    sound: bool,
+    /// Steps of a thousand that damage the disk.
+    damage: usize,
+    /// Steps of a thousand that set a channel's record.
+    records: usize,
+    /// Calls of a thousand that take any channel instead of one that suits them.
+    misfits: usize,
+    /// Names of a thousand that are refused.
+    bad_names: usize,
+}
+
+/// The steps of one case.
+pub struct Generator {
+    random: Random,
+    style: Style,
+    /// Names that the case uses over and over.
+    pool: Vec<Vec<u8>>,
+    /// Steps already decided on.
+    planned: VecDeque<Step>,
+    /// Steps still to decide on.
+    left: usize,
+}
+
+impl Generator {
+    /// The case of a seed.
+    pub fn new(seed: u64) -> Generator {
+        let mut random = Random::new(seed);
+        let style = match random.below(100) {
+            0..30 => Style {
+                sound: true,
+                damage: 0,
+                records: 0,
+                misfits: 50,
+                bad_names: 40,
+            },
+            30..75 => Style {
+                sound: false,
+                damage: 120,
+                records: 40,
+                misfits: 60,
+                bad_names: 40,
+            },
+            _ => Style {
+                sound: false,
+                damage: 250,
+                records: 150,
+                misfits: 120,
+                bad_names: 100,
+            },
+        };
+        let left = random.between(30, 250);
+        let mut generator = Generator {
+            random,
+            style,
+            pool: Vec::new(),
+            planned: VecDeque::new(),
+            left,
+        };
+        for _ in 0..generator.random.between(3, 8) {
+            let text = generator.legal_text();
+            generator.pool.push(text);
+        }
+        generator.set_up();
+        generator
+    }
+
+    /// The disk must stay sound in this case.
+    pub fn is_sound(&self) -> bool {
+        self.style.sound
+    }
+
+    /// The next step, for the world as it is.
+    pub fn next(&mut self, world: &World) -> Option<Step> {
+        if self.planned.is_empty() {
+            self.left = self.left.checked_sub(1)?;
+            self.plan(world);
+        }
+        self.planned.pop_front()
+    }
+
+    /// Decides on one step or a few that belong together.
+    fn plan(&mut self, world: &World) {
+        if let Some(number) = (0..8).find(|&number| world.record(number)[0] > 2) {
+            if self.random.chance(400) {
+                self.planned.push_back(Step::Channel {
+                    number: number as u8,
+                    record: [0; 5],
+                });
+                return;
+            }
+        }
+        if !RIGHT.table_is_good(world.disk()) && self.random.chance(300) {
+            self.mend_table(world);
+        } else if self.random.chance(self.style.damage) {
+            self.damage(world);
+        } else if self.random.chance(self.style.records) {
+            self.set_records(world);
+        } else {
+            let call = self.call(world);
+            let lengths = self.lengths(&call);
+            self.planned.push_back(Step::Call { call, lengths });
+        }
+    }
+
+    /// Mostly the right lengths.
+    fn lengths(&mut self, call: &Call) -> Lengths {
+        let mut lengths = Lengths::RIGHT;
+        let thin = matches!(call, Call::ThinGet { .. } | Call::ThinPut { .. });
+        if self.random.chance(if thin { 60 } else { 25 }) {
+            let whole = lengths.image;
+            let others = [0, 1, 128, whole - 128, whole - 1, whole + 1, whole + 128];
+            lengths.image = self.random.pick(&others);
+        }
+        if self.random.chance(8) {
+            lengths.table = self
+                .random
+                .pick(&[0, 5, 35, TABLE - 1, TABLE + 1, TABLE + 5]);
+        }
+        lengths
+    }
+
+    /// A slot: mostly one that a channel names or that is in use.
+    fn some_slot(&mut self, world: &World) -> u8 {
+        let named: Vec<u8> = (0..8)
+            .map(|channel| world.record(channel))
+            .filter(|record| record[0] != 0 && record[1] < u16::from(SLOTS))
+            .map(|record| record[1] as u8)
+            .collect();
+        if !named.is_empty() && self.random.chance(450) {
+            return self.random.pick(&named);
+        }
+        self.slot_that(world, |flag| flag != 0)
+    }
+
+    /// A slot with a flag as asked for, or now and then any.
+    fn slot_that(&mut self, world: &World, wanted: impl Fn(u8) -> bool) -> u8 {
+        let disk = world.disk();
+        let slots: Vec<u8> = (0..SLOTS)
+            .filter(|&slot| wanted(flag(disk, slot)))
+            .collect();
+        if slots.is_empty() || self.random.chance(80) {
+            return self.random.below(SLOTS.into()) as u8;
+        }
+        self.random.pick(&slots)
+    }
+
+    /// A sector: mostly one on the chain of the slot.
+    fn sector_of(&mut self, world: &World, slot: u8) -> u16 {
+        let chain = chain(world, slot);
+        if !chain.is_empty() && self.random.chance(800) {
+            // The ends of a chain matter more than its middle.
+            return match self.random.below(4) {
+                0 => chain[0],
+                1 => chain[chain.len() - 1],
+                _ => self.random.pick(&chain),
+            };
+        }
+        self.some_sector()
+    }
+
+    /// A sector's number: of any data sector, of one at a border, or of none.
+    fn some_sector(&mut self) -> u16 {
+        match self.random.below(10) {
+            0..6 => self.random.between(4, 20) as u16,
+            6 => self.random.between(4, 719) as u16,
+            7 => self.random.pick(&[3, 4, 359, 360, 361, 368, 369, 719]),
+            8 => self.random.pick(&[0, 1, 2, 720, 721, 1023]),
+            _ => self.random.bits() as u16,
+        }
+    }
+
+    /// Any record, mostly one that nearly fits the disk.
+    fn some_record(&mut self, world: &World) -> [u16; 5] {
+        let slot = self.some_slot(world);
+        let sector = match self.random.below(3) {
+            0 => 0,
+            _ => self.sector_of(world, slot),
+        };
+        let offset = match self.random.below(8) {
+            0..3 => 0,
+            3..6 => self.random.between(0, 125),
+            6 => self.random.between(120, 130),
+            _ => self.random.pick(&[126, 255, 256, 65535]),
+        };
+        let left = match self.random.below(6) {
+            0..3 => usize::from(count(world.disk(), slot)),
+            3 => self.random.between(0, 3),
+            4 => self.random.between(0, 720),
+            _ => self.random.pick(&[0, 707, 708, 65535]),
+        };
+        let slot = match self.random.below(12) {
+            0 => self
+                .random
+                .pick(&[63, 64, 255, 256, 256 + u16::from(slot), 65535]),
+            _ => slot.into(),
+        };
+        let kind = self.random.weighted(&[(10, 0), (45, 1), (45, 2)]);
+        [kind, slot, sector, offset as u16, left as u16]
+    }
+
+    /// Sets the record of one channel, or of all.
+    fn set_records(&mut self, world: &World) {
+        if self.random.chance(50) {
+            for number in 0..8 {
+                let mut record = self.some_record(world);
+                record[0] = self.random.pick(&[1, 2]);
+                self.planned.push_back(Step::Channel { number, record });
+            }
+            let call = self.call(world);
+            self.planned.push_back(call.into());
+            return;
+        }
+        let number = self.random.below(8);
+        let mut record = world.record(number);
+        if record[0] == 0 || self.random.chance(500) {
+            record = self.some_record(world);
+        } else {
+            let word = self.random.between(1, 4);
+            record[word] = self.some_record(world)[word];
+        }
+        if self.random.chance(60) {
+            record[0] = self.random.pick(&[0, 3, 4, 256, 257, 65535]);
+        }
+        self.planned.push_back(Step::Channel {
+            number: number as u8,
+            record,
+        });
+    }
+}
+
+/// The data sectors that a slot's links lead to, no more than a disk has.
+fn chain(world: &World, slot: u8) -> Vec<u16> {
+    let disk = world.disk();
+    let link = |&sector: &u16| {
+        let at = usize::from(sector - 1) * 128 + 125;
+        let next = u16::from_be_bytes([disk[at] & 3, disk[at + 1]]);
+        is_data_sector(next).then_some(next)
+    };
+    let first =
+        Some(first(disk, slot)).filter(|&sector| sector < SECTORS && is_data_sector(sector));
+    std::iter::successors(first, link)
+        .take(DATA_SECTORS.into())
+        .collect()
+}

@@ -1,0 +1,70 @@
+//! Many cases from one seed, up to the first difference.
+
+use model::disk::IMAGE;
+use model::sound::is_sound;
+
+use crate::generate::Generator;
+use crate::pair::{Difference, Pair};
+use crate::random::Random;
+use crate::statistics::Statistics;
+use crate::step::{Step, TABLE};
+use crate::world::World;
+
+/// A case that ended in a difference.
+pub struct Failure {
+    /// Calls made until then, those of the cases before included.
+    pub calls: usize,
+    /// The case's steps; the last one differs.
+    pub steps: Vec<Step>,
+    pub difference: Difference,
+}
+
+/// Runs cases until so many calls are made; answers how many.
+pub fn run(
+    pair: &mut Pair,
+    seed: u64,
+    calls: usize,
+    statistics: &mut Statistics,
+) -> Result<usize, Box<Failure>> {
+    let mut seeds = Random::new(seed);
+    let start = World::new();
+    let mut made = 0;
+    while made < calls {
+        pair.reset(&start);
+        run_case(pair, Generator::new(seeds.bits()), &mut made, statistics)?;
+    }
+    Ok(made)
+}
+
+fn run_case(
+    pair: &mut Pair,
+    mut generator: Generator,
+    made: &mut usize,
+    statistics: &mut Statistics,
+) -> Result<(), Box<Failure>> {
+    let mut steps = Vec::new();
+    while let Some(step) = generator.next(pair.world()) {
+        let mut outcome = pair.step(&step);
+        if generator.is_sound() && outcome.is_ok() && !sound(pair.world()) {
+            outcome = Err(Difference(vec!["the disk is no longer sound".into()]));
+        }
+        *made += usize::from(matches!(step, Step::Call { .. }));
+        steps.push(step);
+        match outcome {
+            Ok(None) => (),
+            Ok(Some(reply)) => statistics.count(&steps[steps.len() - 1], reply.answer),
+            Err(difference) => {
+                return Err(Box::new(Failure {
+                    calls: *made,
+                    steps,
+                    difference,
+                }));
+            }
+        }
+    }
+    Ok(())
+}
+
+fn sound(world: &World) -> bool {
+    is_sound(&world.image[..IMAGE], &world.table[..TABLE])
+}

@@ -1,0 +1,139 @@
+//! Shrinking: a short list of steps that still shows a difference.
+
+use crate::pair::{Difference, Pair};
+use crate::step::{Buffer, Call, Lengths, Step};
+use crate::world::World;
+
+/// Runs of shorter lists tried at most.
+const TRIES: usize = 4000;
+
+/// A list of steps from a fresh disk that ends in a difference.
+pub struct Shrunk {
+    pub steps: Vec<Step>,
+    pub difference: Difference,
+}
+
+/// Shortens a list of steps whose last one differs.
+pub fn shrink(pair: &mut Pair, steps: &[Step], difference: Difference) -> Shrunk {
+    let start = World::new();
+    let mut best = Shrunk {
+        steps: steps.to_vec(),
+        difference,
+    };
+    let mut tries = 0;
+    loop {
+        let before = best.steps.clone();
+        drop_steps(pair, &start, &mut best, &mut tries);
+        simplify_steps(pair, &start, &mut best, &mut tries);
+        if best.steps == before || tries >= TRIES {
+            return best;
+        }
+    }
+}
+
+/// Keeps the list if it shows a difference, up to the step that does.
+fn keep(
+    pair: &mut Pair,
+    start: &World,
+    best: &mut Shrunk,
+    tries: &mut usize,
+    mut steps: Vec<Step>,
+) -> bool {
+    *tries += 1;
+    if *tries > TRIES {
+        return false;
+    }
+    let Some((place, difference)) = pair.first_difference(start, &steps) else {
+        return false;
+    };
+    steps.truncate(place + 1);
+    *best = Shrunk { steps, difference };
+    true
+}
+
+/// Leaves out runs of steps, long ones first.
+fn drop_steps(pair: &mut Pair, start: &World, best: &mut Shrunk, tries: &mut usize) {
+    let mut run = best.steps.len().div_ceil(2);
+    while run > 0 {
+        let mut from = 0;
+        while from < best.steps.len() {
+            let mut steps = best.steps.clone();
+            steps.drain(from..(from + run).min(steps.len()));
+            if !keep(pair, start, best, tries, steps) {
+                from += run;
+            }
+        }
+        run /= 2;
+    }
+}
+
+/// Makes single steps simpler, as often as that goes.
+fn simplify_steps(pair: &mut Pair, start: &World, best: &mut Shrunk, tries: &mut usize) {
+    let mut place = 0;
+    while place < best.steps.len() {
+        let kept = simpler(&best.steps[place]).into_iter().any(|step| {
+            let mut steps = best.steps.clone();
+            steps[place] = step;
+            keep(pair, start, best, tries, steps)
+        });
+        if !kept {
+            place += 1;
+        }
+    }
+}
+
+/// Simpler steps than the one given, the simplest first.
+fn simpler(step: &Step) -> Vec<Step> {
+    let Step::Call { call, lengths } = step else {
+        return Vec::new();
+    };
+    let mut steps = Vec::new();
+    if *lengths != Lengths::RIGHT {
+        steps.push(Step::Call {
+            call: call.clone(),
+            lengths: Lengths::RIGHT,
+        });
+    }
+    let buffer = match call {
+        Call::Cio { buffer, .. }
+        | Call::Sector { buffer, .. }
+        | Call::ThinGet { buffer, .. }
+        | Call::ThinPut { buffer, .. } => buffer,
+        Call::Recover { .. } | Call::Show { .. } | Call::Name { .. } => return steps,
+    };
+    for shorter in simpler_buffers(buffer) {
+        let mut call = call.clone();
+        match &mut call {
+            Call::Cio { buffer, .. }
+            | Call::Sector { buffer, .. }
+            | Call::ThinGet { buffer, .. }
+            | Call::ThinPut { buffer, .. } => *buffer = shorter,
+            Call::Recover { .. } | Call::Show { .. } | Call::Name { .. } => (),
+        }
+        steps.push(Step::Call {
+            call,
+            lengths: *lengths,
+        });
+    }
+    steps
+}
+
+fn simpler_buffers(buffer: &Buffer) -> Vec<Buffer> {
+    let length = buffer.len();
+    let mut buffers = Vec::new();
+    if matches!(buffer, Buffer::Bytes(_)) && length > 0 {
+        buffers.push(Buffer::Fill(length, b'A'));
+    }
+    for shorter in [
+        0,
+        1,
+        length / 2,
+        length - length.min(125),
+        length.saturating_sub(1),
+    ] {
+        if shorter < length {
+            buffers.push(buffer.cut(shorter));
+        }
+    }
+    buffers
+}

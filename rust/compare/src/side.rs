@@ -1,0 +1,126 @@
+//! The two sides of a comparison, behind one trait.
+
+use model::fault::Variant;
+use model::{Model, RIGHT};
+
+/// Something that answers the seven calls of the C interface.
+pub trait Side {
+    /// One CIO command on a channel of the table.
+    #[allow(clippy::too_many_arguments)]
+    fn cio(
+        &self,
+        image: &mut [u8],
+        table: &mut [u16],
+        channel: u8,
+        command: u8,
+        direction: u8,
+        name: &[u8],
+        buffer: &mut [u8],
+    ) -> u64;
+
+    /// Recovery of a deleted file.
+    fn recover(&self, image: &mut [u8], slot: u8) -> u64;
+
+    /// One sector read or written.
+    fn sector(
+        &self,
+        image: &mut [u8],
+        device: u8,
+        unit: u8,
+        command: u8,
+        sector: u16,
+        buffer: &mut [u8],
+    ) -> u64;
+
+    /// The bytes in use of one sector.
+    fn show(&self, image: &[u8], slot: u8, sector: u16) -> u64;
+
+    /// A get with one lent record.
+    fn thin_get(&self, image: &mut [u8], words: &mut [u16], buffer: &mut [u8]) -> u64;
+
+    /// A put with one lent record.
+    fn thin_put(&self, image: &mut [u8], words: &mut [u16], buffer: &mut [u8]) -> u64;
+
+    /// A name taken apart.
+    fn name(&self, name: &[u8], eleven: &mut [u8]) -> u64;
+}
+
+/// Hands the seven calls on to the functions of the same names in a module, or to the methods of a value.
+macro_rules! hand_on_to {
+    ($me:ident => $($to:tt)*) => {
+        fn cio(
+            &$me,
+            image: &mut [u8],
+            table: &mut [u16],
+            channel: u8,
+            command: u8,
+            direction: u8,
+            name: &[u8],
+            buffer: &mut [u8],
+        ) -> u64 {
+            $($to)*cio(image, table, channel, command, direction, name, buffer)
+        }
+
+        fn recover(&$me, image: &mut [u8], slot: u8) -> u64 {
+            $($to)*recover(image, slot)
+        }
+
+        fn sector(
+            &$me,
+            image: &mut [u8],
+            device: u8,
+            unit: u8,
+            command: u8,
+            sector: u16,
+            buffer: &mut [u8],
+        ) -> u64 {
+            $($to)*sector(image, device, unit, command, sector, buffer)
+        }
+
+        fn show(&$me, image: &[u8], slot: u8, sector: u16) -> u64 {
+            $($to)*show(image, slot, sector)
+        }
+
+        fn thin_get(&$me, image: &mut [u8], words: &mut [u16], buffer: &mut [u8]) -> u64 {
+            $($to)*thin_get(image, words, buffer)
+        }
+
+        fn thin_put(&$me, image: &mut [u8], words: &mut [u16], buffer: &mut [u8]) -> u64 {
+            $($to)*thin_put(image, words, buffer)
+        }
+
+        fn name(&$me, name: &[u8], eleven: &mut [u8]) -> u64 {
+            $($to)*name(name, eleven)
+        }
+    };
+}
+
+/// The model, right or with a fault.
+impl<V: Variant> Side for Model<V> {
+    hand_on_to!(self => (*self).);
+}
+
+/// The proved library, through its C interface.
+#[cfg(feature = "proved")]
+pub struct Proved;
+
+#[cfg(feature = "proved")]
+impl Side for Proved {
+    hand_on_to!(self => hilugsaban::raw::);
+}
+
+/// The independent model.
+pub const MODEL: &dyn Side = &RIGHT;
+
+/// The proved library, or in a build without it the model once more.
+#[cfg(feature = "proved")]
+pub const LIBRARY: &dyn Side = &Proved;
+#[cfg(not(feature = "proved"))]
+pub const LIBRARY: &dyn Side = MODEL;
+
+/// What [`LIBRARY`] is.
+pub const LIBRARY_NAME: &str = if cfg!(feature = "proved") {
+    "library"
+} else {
+    "model (the library is not linked)"
+};

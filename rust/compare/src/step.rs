@@ -1,0 +1,277 @@
+//! One step of a case: a call of the C interface, or a change by hand between two calls.
+//!
+//! A step is written as one line in the input syntax of `desk shell`. What that shell has no
+//! line for (another length of what is lent) is written as a comment in front of the call.
+
+use std::fmt::{self, Display, Formatter};
+
+use model::disk::IMAGE;
+
+/// Words of a table of channels.
+pub const TABLE: usize = 40;
+
+/// The bytes that a call is lent.
+#[derive(Clone, Debug, PartialEq, Eq)]
+pub enum Buffer {
+    /// So many bytes of one value.
+    Fill(usize, u8),
+    Bytes(Vec<u8>),
+}
+
+impl Buffer {
+    pub fn bytes(&self) -> Vec<u8> {
+        match self {
+            Buffer::Fill(length, value) => vec![*value; *length],
+            Buffer::Bytes(bytes) => bytes.clone(),
+        }
+    }
+
+    pub fn len(&self) -> usize {
+        match self {
+            Buffer::Fill(length, _) => *length,
+            Buffer::Bytes(bytes) => bytes.len(),
+        }
+    }
+
+    pub fn is_empty(&self) -> bool {
+        self.len() == 0
+    }
+
+    /// Its first bytes.
+    pub fn cut(&self, length: usize) -> Buffer {
+        match self {
+            Buffer::Fill(whole, value) => Buffer::Fill(length.min(*whole), *value),
+            Buffer::Bytes(bytes) => Buffer::Bytes(bytes[..length.min(bytes.len())].to_vec()),
+        }
+    }
+}
+
+/// A call of the C interface.
+#[derive(Clone, Debug, PartialEq, Eq)]
+pub enum Call {
+    Cio {
+        channel: u8,
+        command: u8,
+        direction: u8,
+        name: Vec<u8>,
+        buffer: Buffer,
+    },
+    Recover {
+        slot: u8,
+    },
+    Sector {
+        device: u8,
+        unit: u8,
+        command: u8,
+        sector: u16,
+        buffer: Buffer,
+    },
+    Show {
+        slot: u8,
+        sector: u16,
+    },
+    ThinGet {
+        words: Vec<u16>,
+        buffer: Buffer,
+    },
+    ThinPut {
+        words: Vec<u16>,
+        buffer: Buffer,
+    },
+    Name {
+        name: Vec<u8>,
+        eleven: Buffer,
+    },
+}
+
+/// The lengths at which the image and the table are lent.
+#[derive(Clone, Copy, Debug, PartialEq, Eq)]
+pub struct Lengths {
+    pub image: usize,
+    pub table: usize,
+}
+
+impl Lengths {
+    /// Those of a disk and a table of channels.
+    pub const RIGHT: Lengths = Lengths {
+        image: IMAGE,
+        table: TABLE,
+    };
+}
+
+/// One step of a case.
+#[derive(Clone, Debug, PartialEq, Eq)]
+pub enum Step {
+    /// A fresh disk, and all channels closed.
+    Format,
+    /// One byte of a sector is set.
+    Poke {
+        sector: u16,
+        byte: u8,
+        value: u8,
+    },
+    /// The record of one channel is set.
+    Channel {
+        number: u8,
+        record: [u16; 5],
+    },
+    Call {
+        call: Call,
+        lengths: Lengths,
+    },
+}
+
+impl From<Call> for Step {
+    fn from(call: Call) -> Step {
+        Step::Call {
+            call,
+            lengths: Lengths::RIGHT,
+        }
+    }
+}
+
+impl Display for Step {
+    fn fmt(&self, out: &mut Formatter) -> fmt::Result {
+        match self {
+            Step::Format => write!(out, "format"),
+            Step::Poke {
+                sector,
+                byte,
+                value,
+            } => write!(out, "poke {sector} {byte} {value}"),
+            Step::Channel { number, record } => write!(out, "channel {number} {}", words(record)),
+            Step::Call { call, lengths } => {
+                if *lengths != Lengths::RIGHT {
+                    let Lengths { image, table } = lengths;
+                    writeln!(
+                        out,
+                        "# lent next: {image} bytes of image, {table} words of table"
+                    )?;
+                }
+                write!(out, "{call}")
+            }
+        }
+    }
+}
+
+impl Display for Call {
+    fn fmt(&self, out: &mut Formatter) -> fmt::Result {
+        match self {
+            Call::Cio {
+                channel,
+                command,
+                direction,
+                name,
+                buffer,
+            } => {
+                write!(
+                    out,
+                    "cio {channel} {command} {direction} {} {buffer}",
+                    quoted(name)
+                )
+            }
+            Call::Recover { slot } => write!(out, "recover {slot}"),
+            Call::Sector {
+                device,
+                unit,
+                command,
+                sector,
+                buffer,
+            } => {
+                write!(out, "sector {device} {unit} {command} {sector} {buffer}")
+            }
+            Call::Show { slot, sector } => write!(out, "show {slot} {sector}"),
+            Call::ThinGet {
+                words: record,
+                buffer,
+            } => {
+                write!(out, "thin-get {} {buffer}", words(record))
+            }
+            Call::ThinPut {
+                words: record,
+                buffer,
+            } => {
+                write!(out, "thin-put {} {buffer}", words(record))
+            }
+            Call::Name { name, eleven } => write!(out, "name {} {eleven}", quoted(name)),
+        }
+    }
+}
+
+impl Display for Buffer {
+    fn fmt(&self, out: &mut Formatter) -> fmt::Result {
+        match self {
+            Buffer::Fill(0, _) => write!(out, "-"),
+            Buffer::Fill(length, value) => write!(out, "{length}*{value:02x}"),
+            Buffer::Bytes(bytes) if bytes.is_empty() => write!(out, "-"),
+            Buffer::Bytes(bytes) => bytes.iter().try_for_each(|byte| write!(out, "{byte:02x}")),
+        }
+    }
+}
+
+/// A name in quotes, with escapes for all but plain characters.
+fn quoted(name: &[u8]) -> String {
+    let mut text = String::from("\"");
+    for &byte in name {
+        match byte {
+            b'"' | b'\\' => text.push_str(&format!("\\x{byte:02x}")),
+            b' '..=b'~' => text.push(byte.into()),
+            _ => text.push_str(&format!("\\x{byte:02x}")),
+        }
+    }
+    text + "\""
+}
+
+fn words(words: &[u16]) -> String {
+    words
+        .iter()
+        .map(u16::to_string)
+        .collect::<Vec<_>>()
+        .join(" ")
+}
+
+#[cfg(test)]
+mod tests {
+    use super::*;
+
+    #[test]
+    fn lines_of_the_shell() {
+        let cio = |name: &[u8], buffer| {
+            let name = name.to_vec();
+            Step::from(Call::Cio {
+                channel: 1,
+                command: 11,
+                direction: 0,
+                name,
+                buffer,
+            })
+            .to_string()
+        };
+        assert_eq!(
+            cio(b"D:A\x9b", Buffer::Fill(0, 9)),
+            r#"cio 1 11 0 "D:A\x9b" -"#
+        );
+        assert_eq!(
+            cio(b"\"\\", Buffer::Fill(3, 10)),
+            r#"cio 1 11 0 "\x22\x5c" 3*0a"#
+        );
+        assert_eq!(
+            cio(b"", Buffer::Bytes(vec![0, 255])),
+            r#"cio 1 11 0 "" 00ff"#
+        );
+        assert_eq!(
+            Step::Poke {
+                sector: 4,
+                byte: 127,
+                value: 9
+            }
+            .to_string(),
+            "poke 4 127 9"
+        );
+        let record = [1, 2, 3, 4, 5];
+        assert_eq!(
+            Step::Channel { number: 7, record }.to_string(),
+            "channel 7 1 2 3 4 5"
+        );
+    }
+}

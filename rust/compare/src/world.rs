@@ -1,0 +1,146 @@
+//! What a list of calls works on, and how a step runs on one side.
+
+use model::disk::{Disk, IMAGE};
+
+use crate::side::Side;
+use crate::step::{Call, Lengths, Step, TABLE};
+
+/// Bytes behind the image and words behind the table, so that more than them can be lent, and
+/// so that a side that writes behind what it is lent is noticed.
+const SPARE: usize = 128;
+
+/// An image and a table of channels.
+#[derive(Clone)]
+pub struct World {
+    pub image: Vec<u8>,
+    pub table: Vec<u16>,
+}
+
+/// What a call hands back, apart from image and table.
+#[derive(Debug, PartialEq, Eq)]
+pub struct Reply {
+    /// Status + 256 * count, or what a showing answers.
+    pub answer: u64,
+    /// The lent buffer, the eleven bytes of a name included.
+    pub buffer: Vec<u8>,
+    /// The lent record of a thin call.
+    pub words: Vec<u16>,
+}
+
+impl World {
+    /// A fresh disk, and all channels closed.
+    pub fn new() -> World {
+        let mut image = model::volume::fresh();
+        image.resize(IMAGE + SPARE, 0);
+        World {
+            image,
+            table: vec![0; TABLE + SPARE],
+        }
+    }
+
+    /// The image without the bytes behind it.
+    pub fn disk(&self) -> &Disk {
+        self.image
+            .first_chunk()
+            .expect("the image has its length and more")
+    }
+
+    /// The record of a channel.
+    pub fn record(&self, channel: usize) -> [u16; 5] {
+        *self.table[5 * channel..]
+            .first_chunk()
+            .expect("one of the eight channels")
+    }
+
+    /// The same bytes as another.
+    pub fn copy_from(&mut self, other: &World) {
+        self.image.copy_from_slice(&other.image);
+        self.table.copy_from_slice(&other.table);
+    }
+
+    /// Runs one step on a side. A step that is no call has no reply.
+    pub fn run(&mut self, side: &dyn Side, step: &Step) -> Option<Reply> {
+        match step {
+            Step::Format => {
+                *self = World::new();
+                None
+            }
+            Step::Poke {
+                sector,
+                byte,
+                value,
+            } => {
+                self.image[usize::from(sector - 1) * 128 + usize::from(*byte)] = *value;
+                None
+            }
+            Step::Channel { number, record } => {
+                self.table[5 * usize::from(*number)..][..5].copy_from_slice(record);
+                None
+            }
+            Step::Call { call, lengths } => Some(self.call(side, call, *lengths)),
+        }
+    }
+
+    fn call(&mut self, side: &dyn Side, call: &Call, lengths: Lengths) -> Reply {
+        let image = &mut self.image[..lengths.image];
+        let table = &mut self.table[..lengths.table];
+        let mut reply = Reply {
+            answer: 0,
+            buffer: Vec::new(),
+            words: Vec::new(),
+        };
+        reply.answer = match call {
+            Call::Cio {
+                channel,
+                command,
+                direction,
+                name,
+                buffer,
+            } => {
+                reply.buffer = buffer.bytes();
+                side.cio(
+                    image,
+                    table,
+                    *channel,
+                    *command,
+                    *direction,
+                    name,
+                    &mut reply.buffer,
+                )
+            }
+            Call::Recover { slot } => side.recover(image, *slot),
+            Call::Sector {
+                device,
+                unit,
+                command,
+                sector,
+                buffer,
+            } => {
+                reply.buffer = buffer.bytes();
+                side.sector(image, *device, *unit, *command, *sector, &mut reply.buffer)
+            }
+            Call::Show { slot, sector } => side.show(image, *slot, *sector),
+            Call::ThinGet { words, buffer } => {
+                reply.words = words.clone();
+                reply.buffer = buffer.bytes();
+                side.thin_get(image, &mut reply.words, &mut reply.buffer)
+            }
+            Call::ThinPut { words, buffer } => {
+                reply.words = words.clone();
+                reply.buffer = buffer.bytes();
+                side.thin_put(image, &mut reply.words, &mut reply.buffer)
+            }
+            Call::Name { name, eleven } => {
+                reply.buffer = eleven.bytes();
+                side.name(name, &mut reply.buffer)
+            }
+        };
+        reply
+    }
+}
+
+impl Default for World {
+    fn default() -> World {
+        World::new()
+    }
+}
