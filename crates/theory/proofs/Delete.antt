@@ -17,7 +17,7 @@ use Rattle.layout.specs.File.{owner, cleanFrom, cleanAs, clean, cleanFree, sect
 use Rattle.layout.proofs.Logic.{and-left, and-right}
 use Rattle.layout.proofs.Data.{data-facts}
 use Rattle.layout.proofs.Members.{Each, Distinct, member-head}
-use Rattle.layout.proofs.MapAll.{freeAll-in, useAll-in}
+use Rattle.layout.proofs.MapAll.{freeAll-in, useAll-in, useAll-out}
 use Rattle.layout.proofs.Chain.{fits-data, fits-owner, Walk, walk-frame, content-frame, walk-fits, walk-distinct, clean-walk, walk-clean, walk-sectors, length-sectors}
 use Rattle.theory.proofs.Row.{row, same-count, same-first, same-entry, row-table, data-outside, only-flag, flag-byte, flag-table}
 
@@ -143,3 +143,6 @@ module _ (g : Geometry) (d : Disk) (s : ℕ) where
 
   pub restore-used : s < 64 → Each (free (restore g d s 360)) false (chain g d s)
   restore-used z = rw (restore-is, flag-table (useAll (chain g d s) d) s 0x42 z) (useAll-in (chain g d s) d)
+
+  pub restore-other : s < 64 → (x : ℕ) → member x (chain g d s) ≡ false → free (restore g d s 360) x ≡ free (d 360) x
+  restore-other z x m = rw (restore-is, flag-table (useAll (chain g d s) d) s 0x42 z) (useAll-out (chain g d s) d x m)

@@ -17,3 +17,5 @@ pub mod Calls
 pub mod Deleted
 pub mod SoundDir
 pub mod SoundChan
+pub mod Recovered
+pub mod Demand3
