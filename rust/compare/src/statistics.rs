@@ -16,6 +16,15 @@ impl Statistics {
             *statuses.entry((answer % 256) as u8).or_default() += 1;
         }
     }
+
+    /// The statuses that came for a kind of call, in order.
+    pub fn statuses(&self, kind: &str) -> Vec<u8> {
+        self.0
+            .get(kind)
+            .into_iter()
+            .flat_map(|statuses| statuses.keys().copied())
+            .collect()
+    }
 }
 
 /// The kind of a call, for the table.

@@ -121,8 +121,9 @@ fn transfers(command: u8, length: usize) -> Line {
         }
         begun.elapsed() / calls
     };
+    let bytes = if length == 1 { "byte" } else { "bytes" };
     Line {
-        text: format!("{text} of {length} bytes"),
+        text: format!("{text} of {length} {bytes}"),
         start,
         calls: Box::new(run),
     }

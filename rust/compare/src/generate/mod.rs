@@ -55,21 +55,21 @@ impl Generator {
                 damage: 0,
                 records: 0,
                 misfits: 50,
-                bad_names: 40,
+                bad_names: 70,
             },
             30..75 => Style {
                 sound: false,
                 damage: 120,
                 records: 40,
                 misfits: 60,
-                bad_names: 40,
+                bad_names: 70,
             },
             _ => Style {
                 sound: false,
                 damage: 250,
                 records: 150,
                 misfits: 120,
-                bad_names: 100,
+                bad_names: 120,
             },
         };
         let left = random.between(30, 250);

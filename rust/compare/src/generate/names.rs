@@ -64,8 +64,8 @@ impl Generator {
     /// The device, mostly `D:`; a wrong one if asked for.
     fn device(&mut self, bad: bool) -> &'static [u8] {
         let good: [&[u8]; 3] = [b"D:", b"D:", b"D1:"];
-        let wrong: [&[u8]; 10] = [
-            b"D2:", b"D0:", b"D9:", b"E:", b"d:", b"D", b"DD:", b"D12:", b"", b":",
+        let wrong: [&[u8]; 12] = [
+            b"D2:", b"D2:", b"D0:", b"D8:", b"D9:", b"E:", b"d:", b"D", b"DD:", b"D12:", b"", b":",
         ];
         if bad {
             self.random.pick(&wrong)
