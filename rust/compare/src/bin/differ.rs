@@ -4,9 +4,10 @@
 //! differ [--calls N] [--seed S] [--long] [--against SIDE] [--statistics] [--faults]
 //! ```
 //!
-//! SIDE is `library` (the proved library where it is linked, and what is meant without
-//! `--against`), `model`, or the name of a fault of the model. It is compared with the model.
-//! With `--faults` it is compared instead with each fault of the model, which must be noticed.
+//! SIDE is `library`, `model`, or the name of a fault of the model. It is compared with the
+//! model; with `--faults`, with each fault of the model, which must be noticed. Without
+//! `--against` it is the library where that is linked, else the model. To ask for the library
+//! where it is not linked is an error, so that a test that names it cannot pass without it.
 //! The exit status is 0 where all is as it must be, else 1.
 
 use std::process::ExitCode;
@@ -68,7 +69,11 @@ impl Options {
 /// The side of that name, and how reports call it.
 fn side(name: &str) -> Option<(&'static str, &'static dyn Side)> {
     match name {
-        "library" => Some((LIBRARY_NAME, LIBRARY)),
+        "library" if cfg!(feature = "proved") => Some((LIBRARY_NAME, LIBRARY)),
+        "library" => {
+            eprintln!("the library is not linked: build with the feature proved");
+            None
+        }
         "model" => Some(("model", MODEL)),
         _ => {
             let (fault, _) = FAULTS
