@@ -13,7 +13,7 @@ use layout::status::SUCCESS;
 ghost use mathlib.Core.Path.{_≡_};
 ghost use Prim.Native.Nat.{_+_, _≤_, _<_};
 ghost use lib.ListN.{length};
-ghost use Rattle.layout.specs.Names.{hasDevice, hasUnit, body, nameEnd, wholeEnd, wellFormed, padded, packed, nameAt, readAs, readName, oldName, newName, readDevice, nameStatus};
+ghost use Rattle.layout.specs.Names.{hasDevice, hasUnit, body, nameEnd, wholeEnd, wellFormed, padded, packed, nameByte, nameAt, readAs, readName, oldName, newName, readDevice, nameStatus};
 ghost use Rattle.chars.specs.Ends.{endsBy};
 
 // `D`, an optional digit, and a colon.
@@ -183,4 +183,15 @@ pub fn name_status(n: Name) -> u8
         } => SUCCESS,
         Name::Refused(status) => status,
     }
+}
+
+// Byte j of the eleven that two words hold.
+pub fn name_byte(name: u64, extension: u64, j: usize) -> u8
+    requires { ⌜ j < 11 ⌝ }
+    ensures { λ r. ⌜ r ≡ nameByte name extension j ⌝ }
+{
+    if j < 8 {
+        return ((name >> (8 * j)) % 256) as u8;
+    }
+    ((extension >> (8 * (j - 8))) % 256) as u8
 }
