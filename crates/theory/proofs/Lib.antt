@@ -19,3 +19,7 @@ pub mod SoundDir
 pub mod SoundChan
 pub mod Recovered
 pub mod Demand3
+pub mod Contents
+pub mod Writer
+pub mod SoundAdd
+pub mod SoundGive

@@ -30,6 +30,11 @@ pub held-no : (d : Disk) (t : Table) (s : ℕ) → held d t s ≡ false → ((j 
 unfolding held
 held-no d t s h = let (a, b) = or-no (heldByChannel t s) (output (flag d s)) h in (held-none t s a, not-output (flag d s) b)
 
+-- the first case with one fact more
+standing-too : {A B C : Type 0} → C → A ⊎ B → (C × A) ⊎ B
+standing-too c (inl x) = inl (c, x)
+standing-too c (inr x) = inr x
+
 module _ (g : Geometry) (d : Disk) (t : Table) (a : Sound g d t) (s : ℕ) where
   -- the channels stay, and none holds the slot
   pub quiet : (d' : Disk) (l : List ℕ) → flag d' s ≢ 0x43 → ((j : ℕ) → j < 8 → holds (stateOf t j) s ≡ false) → Kept g d' t t s l
@@ -41,6 +46,14 @@ module _ (g : Geometry) (d : Disk) (t : Table) (a : Sound g d t) (s : ℕ) where
       let (y, w, m) = a .owned x h u in
       let e : y ≡ s = sym (clean-used g d y (a .chains y w) .owners x m) ∙ o in
       (rw e at w, rw e at m)
+
+  -- so a used sector is on its chain, or another slot's
+  pub whose : (x : ℕ) → dataSector x ≡ true → free (d 360) x ≡ false → OnChain g d s x ⊎ ((free (d 360) x ≡ false) × (owner g (d x) ≢ s))
+  whose x h u = go (ℕ-discrete (owner g (d x)) s)
+    where
+      go : Dec (owner g (d x) ≡ s) → OnChain g d s x ⊎ ((free (d 360) x ≡ false) × (owner g (d x) ≢ s))
+      go (yes o) = inl (on-chain x h u o .1)
+      go (no o) = inr (u, o)
 
   pub earlier : flag d s ≢ 0 → s < 64 → (x : ℕ) → x < s → flag d x ≢ 0
   earlier f z x l e = f (a .zeros x s l z e)
@@ -125,15 +138,11 @@ module _ (g : Geometry) (d : Disk) (t : Table) (a : Sound g d t) (s : ℕ) where
         legals = λ _. lg;
         apart = λ _. al;
         mine = λ _. marked-of g d' s false (chain g d s) (chain-frame g d d' s (chain g d s) e3 e1 (λ x m. o .sectors x (data-outside x (my-marks .datas x m))) (my-marks .whole)) (λ x m. rw tb (my-marks .marks x m));
-        back = λ x h u. go x h (rw tb at u) (ℕ-discrete (owner g (d x)) s);
+        back = λ x h u. standing-too st (whose x h (rw tb at u));
       }
         where
           tb : d' 360 ≡ d 360
           tb = o .sectors 360 table-outside
-
-          go : (x : ℕ) → dataSector x ≡ true → free (d 360) x ≡ false → Dec (owner g (d x) ≡ s) → ((standing (flag d' s) ≡ true) × (member x (chain g d s) ≡ true)) ⊎ ((free (d 360) x ≡ false) × (owner g (d x) ≢ s))
-          go x h u (yes q) = inl (st, on-chain x h u q .1)
-          go x h u (no q) = inr (u, q)
 
     -- another flag that stands
     pub change-flag : (v : ℕ) → soundFlag v ≡ true → standing v ≡ true → Change g d (putFlag d s v) s (chain g d s)
@@ -163,9 +172,5 @@ module _ (g : Geometry) (d : Disk) (t : Table) (a : Sound g d t) (s : ℕ) where
       legals = λ q. legal-same (name d' s) (name d s) n ∙ a .legals s w;
       apart = λ q x v m e. m (a .apart x s v w (same-as d x (name d' s) (name d s) n e));
       mine = λ q. mine;
-      back = λ x h u. go (back x h u);
+      back = λ x h u. standing-too (rw f (stands-flag d s w)) (back x h u);
     }
-      where
-        go : {A B : Type 0} → A ⊎ B → ((standing (flag d' s) ≡ true) × A) ⊎ B
-        go (inl x) = inl (rw f (stands-flag d s w), x)
-        go (inr x) = inr x
