@@ -1,11 +1,16 @@
 //! Shrinking: a short list of steps that still shows a difference.
 
 use crate::pair::{Difference, Pair};
-use crate::step::{Buffer, Call, Lengths, Step};
+use crate::run::{run, Failure};
+use crate::statistics::Statistics;
+use crate::step::{Buffer, Lengths, Step};
 use crate::world::World;
 
 /// Runs of shorter lists tried at most.
 const TRIES: usize = 4000;
+/// Other seeds that are looked at, and how many calls of each.
+const OTHERS: u64 = 10;
+const CALLS_OF_OTHERS: usize = 20_000;
 
 /// A list of steps from a fresh disk that ends in a difference.
 pub struct Shrunk {
@@ -13,12 +18,29 @@ pub struct Shrunk {
     pub difference: Difference,
 }
 
-/// Shortens a list of steps whose last one differs.
-pub fn shrink(pair: &mut Pair, steps: &[Step], difference: Difference) -> Shrunk {
+/// The shortest list that can be had from a failure, and from those of some seeds that follow:
+/// a case that happened to begin with a full directory stays long, another may not.
+pub fn shortest(pair: &mut Pair, seed: u64, failure: Failure) -> Shrunk {
+    let mut best = shrink(pair, failure);
+    for other in 1..=OTHERS {
+        let mut statistics = Statistics::default();
+        let seed = seed.wrapping_add(other);
+        if let Err(failure) = run(pair, seed, CALLS_OF_OTHERS, &mut statistics) {
+            let shrunk = shrink(pair, *failure);
+            if shrunk.steps.len() < best.steps.len() {
+                best = shrunk;
+            }
+        }
+    }
+    best
+}
+
+/// Shortens the list of steps of a failure.
+fn shrink(pair: &mut Pair, failure: Failure) -> Shrunk {
     let start = World::new();
     let mut best = Shrunk {
-        steps: steps.to_vec(),
-        difference,
+        steps: failure.steps,
+        difference: failure.difference,
     };
     let mut tries = 0;
     loop {
@@ -94,27 +116,11 @@ fn simpler(step: &Step) -> Vec<Step> {
             lengths: Lengths::RIGHT,
         });
     }
-    let buffer = match call {
-        Call::Cio { buffer, .. }
-        | Call::Sector { buffer, .. }
-        | Call::ThinGet { buffer, .. }
-        | Call::ThinPut { buffer, .. } => buffer,
-        Call::Recover { .. } | Call::Show { .. } | Call::Name { .. } => return steps,
-    };
-    for shorter in simpler_buffers(buffer) {
-        let mut call = call.clone();
-        match &mut call {
-            Call::Cio { buffer, .. }
-            | Call::Sector { buffer, .. }
-            | Call::ThinGet { buffer, .. }
-            | Call::ThinPut { buffer, .. } => *buffer = shorter,
-            Call::Recover { .. } | Call::Show { .. } | Call::Name { .. } => (),
-        }
-        steps.push(Step::Call {
-            call,
-            lengths: *lengths,
-        });
-    }
+    let buffers = call.buffer().map(simpler_buffers).unwrap_or_default();
+    steps.extend(buffers.into_iter().map(|buffer| Step::Call {
+        call: call.with_buffer(buffer),
+        lengths: *lengths,
+    }));
     steps
 }
 

@@ -84,6 +84,42 @@ pub enum Call {
     },
 }
 
+impl Call {
+    /// The lent bytes, the eleven of a name included.
+    pub fn buffer(&self) -> Option<&Buffer> {
+        match self {
+            Call::Cio { buffer, .. }
+            | Call::Sector { buffer, .. }
+            | Call::ThinGet { buffer, .. }
+            | Call::ThinPut { buffer, .. }
+            | Call::Name { eleven: buffer, .. } => Some(buffer),
+            Call::Recover { .. } | Call::Show { .. } => None,
+        }
+    }
+
+    /// The lent record of a thin call, else no words.
+    pub fn words(&self) -> &[u16] {
+        match self {
+            Call::ThinGet { words, .. } | Call::ThinPut { words, .. } => words,
+            _ => &[],
+        }
+    }
+
+    /// The same call with other bytes lent.
+    pub fn with_buffer(&self, other: Buffer) -> Call {
+        let mut call = self.clone();
+        match &mut call {
+            Call::Cio { buffer, .. }
+            | Call::Sector { buffer, .. }
+            | Call::ThinGet { buffer, .. }
+            | Call::ThinPut { buffer, .. }
+            | Call::Name { eleven: buffer, .. } => *buffer = other,
+            Call::Recover { .. } | Call::Show { .. } => (),
+        }
+        call
+    }
+}
+
 /// The lengths at which the image and the table are lent.
 #[derive(Clone, Copy, Debug, PartialEq, Eq)]
 pub struct Lengths {
@@ -162,38 +198,24 @@ impl Display for Call {
                 command,
                 direction,
                 name,
-                buffer,
-            } => {
-                write!(
-                    out,
-                    "cio {channel} {command} {direction} {} {buffer}",
-                    quoted(name)
-                )
-            }
+                ..
+            } => write!(out, "cio {channel} {command} {direction} {}", quoted(name)),
             Call::Recover { slot } => write!(out, "recover {slot}"),
             Call::Sector {
                 device,
                 unit,
                 command,
                 sector,
-                buffer,
-            } => {
-                write!(out, "sector {device} {unit} {command} {sector} {buffer}")
-            }
+                ..
+            } => write!(out, "sector {device} {unit} {command} {sector}"),
             Call::Show { slot, sector } => write!(out, "show {slot} {sector}"),
-            Call::ThinGet {
-                words: record,
-                buffer,
-            } => {
-                write!(out, "thin-get {} {buffer}", words(record))
-            }
-            Call::ThinPut {
-                words: record,
-                buffer,
-            } => {
-                write!(out, "thin-put {} {buffer}", words(record))
-            }
-            Call::Name { name, eleven } => write!(out, "name {} {eleven}", quoted(name)),
+            Call::ThinGet { words: record, .. } => write!(out, "thin-get {}", words(record)),
+            Call::ThinPut { words: record, .. } => write!(out, "thin-put {}", words(record)),
+            Call::Name { name, .. } => write!(out, "name {}", quoted(name)),
+        }?;
+        match self.buffer() {
+            Some(buffer) => write!(out, " {buffer}"),
+            None => Ok(()),
         }
     }
 }

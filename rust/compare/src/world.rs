@@ -3,7 +3,7 @@
 use model::disk::{Disk, IMAGE};
 
 use crate::side::Side;
-use crate::step::{Call, Lengths, Step, TABLE};
+use crate::step::{Buffer, Call, Lengths, Step, TABLE};
 
 /// Bytes behind the image and words behind the table, so that more than them can be lent, and
 /// so that a side that writes behind what it is lent is noticed.
@@ -84,58 +84,34 @@ impl World {
     fn call(&mut self, side: &dyn Side, call: &Call, lengths: Lengths) -> Reply {
         let image = &mut self.image[..lengths.image];
         let table = &mut self.table[..lengths.table];
-        let mut reply = Reply {
-            answer: 0,
-            buffer: Vec::new(),
-            words: Vec::new(),
-        };
-        reply.answer = match call {
+        let mut buffer = call.buffer().map(Buffer::bytes).unwrap_or_default();
+        let mut words = call.words().to_vec();
+        let answer = match *call {
             Call::Cio {
                 channel,
                 command,
                 direction,
-                name,
-                buffer,
-            } => {
-                reply.buffer = buffer.bytes();
-                side.cio(
-                    image,
-                    table,
-                    *channel,
-                    *command,
-                    *direction,
-                    name,
-                    &mut reply.buffer,
-                )
-            }
-            Call::Recover { slot } => side.recover(image, *slot),
+                ref name,
+                ..
+            } => side.cio(image, table, channel, command, direction, name, &mut buffer),
+            Call::Recover { slot } => side.recover(image, slot),
             Call::Sector {
                 device,
                 unit,
                 command,
                 sector,
-                buffer,
-            } => {
-                reply.buffer = buffer.bytes();
-                side.sector(image, *device, *unit, *command, *sector, &mut reply.buffer)
-            }
-            Call::Show { slot, sector } => side.show(image, *slot, *sector),
-            Call::ThinGet { words, buffer } => {
-                reply.words = words.clone();
-                reply.buffer = buffer.bytes();
-                side.thin_get(image, &mut reply.words, &mut reply.buffer)
-            }
-            Call::ThinPut { words, buffer } => {
-                reply.words = words.clone();
-                reply.buffer = buffer.bytes();
-                side.thin_put(image, &mut reply.words, &mut reply.buffer)
-            }
-            Call::Name { name, eleven } => {
-                reply.buffer = eleven.bytes();
-                side.name(name, &mut reply.buffer)
-            }
+                ..
+            } => side.sector(image, device, unit, command, sector, &mut buffer),
+            Call::Show { slot, sector } => side.show(image, slot, sector),
+            Call::ThinGet { .. } => side.thin_get(image, &mut words, &mut buffer),
+            Call::ThinPut { .. } => side.thin_put(image, &mut words, &mut buffer),
+            Call::Name { ref name, .. } => side.name(name, &mut buffer),
         };
-        reply
+        Reply {
+            answer,
+            buffer,
+            words,
+        }
     }
 }
 

@@ -3,7 +3,7 @@
 use compare::generate::Generator;
 use compare::pair::Pair;
 use compare::run::run;
-use compare::shrink::shrink;
+use compare::shrink::shortest;
 use compare::side::MODEL;
 use compare::statistics::Statistics;
 use compare::step::Step;
@@ -26,7 +26,7 @@ fn a_fault_is_noticed_and_its_case_shrunk() {
     let Err(failure) = result else {
         panic!("the fault is not noticed")
     };
-    let shrunk = shrink(&mut pair, &failure.steps, failure.difference);
+    let shrunk = shortest(&mut pair, 1, *failure);
     assert!(
         shrunk.steps.len() <= 2,
         "an open for output, and a search for its name"

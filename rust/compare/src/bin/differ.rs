@@ -15,7 +15,7 @@ use std::time::Instant;
 
 use compare::pair::Pair;
 use compare::run::{run, Failure};
-use compare::shrink::shrink;
+use compare::shrink::shortest;
 use compare::side::{Side, LIBRARY, LIBRARY_NAME, MODEL};
 use compare::statistics::Statistics;
 use model::fault::FAULTS;
@@ -118,20 +118,20 @@ fn compare(options: &Options) -> bool {
             true
         }
         Err(failure) => {
-            report(&mut pair, *failure);
+            report(&mut pair, options.seed, *failure);
             false
         }
     }
 }
 
 /// Prints the failing case, shrunk.
-fn report(pair: &mut Pair, failure: Failure) {
+fn report(pair: &mut Pair, seed: u64, failure: Failure) {
     println!(
         "# a difference after {} calls; a short list of calls that shows it:",
         failure.calls
     );
     println!("format");
-    let shrunk = shrink(pair, &failure.steps, failure.difference);
+    let shrunk = shortest(pair, seed, failure);
     for step in &shrunk.steps {
         println!("{step}");
     }

@@ -93,19 +93,7 @@ impl Generator {
 
     /// A CIO command. What it does not need is random.
     fn cio(&mut self, world: &World, kind: Kind) -> Call {
-        let command = match kind {
-            Kind::OpenRead | Kind::OpenWrite | Kind::OpenOther => 3,
-            Kind::Get => 7,
-            Kind::Put => 11,
-            Kind::Close => 12,
-            Kind::Status => 13,
-            Kind::Rename => 32,
-            Kind::Delete => 33,
-            Kind::Lock => 35,
-            Kind::Unlock => 36,
-            Kind::Format => 254,
-            _ => self.other_command(),
-        };
+        let command = self.command(kind);
         let direction = match kind {
             Kind::OpenRead => 4,
             Kind::OpenWrite => 8,
@@ -137,12 +125,24 @@ impl Generator {
         }
     }
 
-    /// A command that is not listed.
-    fn other_command(&mut self) -> u8 {
-        let near = [
+    /// The command's number, or one that is not listed.
+    fn command(&mut self, kind: Kind) -> u8 {
+        const NOT_LISTED: &[u8] = &[
             0, 1, 2, 4, 5, 6, 8, 9, 10, 14, 31, 34, 37, 38, 39, 40, 253, 255,
         ];
-        self.random.pick(&near)
+        match kind {
+            Kind::OpenRead | Kind::OpenWrite | Kind::OpenOther => 3,
+            Kind::Get => 7,
+            Kind::Put => 11,
+            Kind::Close => 12,
+            Kind::Status => 13,
+            Kind::Rename => 32,
+            Kind::Delete => 33,
+            Kind::Lock => 35,
+            Kind::Unlock => 36,
+            Kind::Format => 254,
+            _ => self.random.pick(NOT_LISTED),
+        }
     }
 
     /// A channel in the state that the command needs, or now and then any.
@@ -229,24 +229,28 @@ impl Generator {
             6 => self.random.between(360, 368) as u16,
             _ => self.random.between(1, 720) as u16,
         };
-        let length = self
-            .random
-            .weighted(&[(90, 128), (3, 127), (3, 129), (2, 0), (2, 256)]);
-        let mut bytes = self.random.bytes(length);
-        // A sector written mostly has the bytes it had, but for one.
-        if length == 128 && (1..=720).contains(&sector) && self.random.chance(700) {
-            let at = usize::from(sector - 1) * 128;
-            bytes.copy_from_slice(&world.disk()[at..at + 128]);
-            let place = self.random.pick(&[0, 3, 64, 124, 127]);
-            bytes[place] = self.random.byte();
-        }
+        let buffer = Buffer::Bytes(self.sector_bytes(world, sector));
         Call::Sector {
             device,
             unit,
             command,
             sector,
-            buffer: Buffer::Bytes(bytes),
+            buffer,
         }
+    }
+
+    /// Bytes for a sector call: mostly those that the sector has, but for one.
+    fn sector_bytes(&mut self, world: &World, sector: u16) -> Vec<u8> {
+        let lengths = [(90, 128), (3, 127), (3, 129), (2, 0), (2, 256)];
+        let length = self.random.weighted(&lengths);
+        let mut bytes = self.random.bytes(length);
+        if length == 128 && (1..=720).contains(&sector) && self.random.chance(700) {
+            let at = sector_start(sector);
+            bytes.copy_from_slice(&world.disk()[at..at + 128]);
+            let place = self.random.pick(&[0, 3, 64, 124, 127]);
+            bytes[place] = self.random.byte();
+        }
+        bytes
     }
 
     fn showing(&mut self, world: &World) -> Call {

@@ -30,11 +30,24 @@ enum Place {
     Flag,
     Count,
     First,
-    NameByte,
     Name,
     Tail,
     Anything,
 }
+
+/// How often each is.
+const PLACES: &[(usize, Place)] = &[
+    (4, Place::TableByte),
+    (16, Place::DataBit),
+    (4, Place::ReservedBit),
+    (4, Place::FreeCount),
+    (16, Place::Flag),
+    (10, Place::Count),
+    (8, Place::First),
+    (12, Place::Name),
+    (28, Place::Tail),
+    (4, Place::Anything),
+];
 
 impl Generator {
     fn poke(&mut self, at: usize, value: u8) {
@@ -54,19 +67,7 @@ impl Generator {
 
     /// Plans one damage.
     pub(super) fn damage(&mut self, world: &World) {
-        let place = self.random.weighted(&[
-            (4, Place::TableByte),
-            (16, Place::DataBit),
-            (4, Place::ReservedBit),
-            (4, Place::FreeCount),
-            (16, Place::Flag),
-            (10, Place::Count),
-            (8, Place::First),
-            (6, Place::NameByte),
-            (6, Place::Name),
-            (28, Place::Tail),
-            (4, Place::Anything),
-        ]);
+        let place = self.random.weighted(PLACES);
         let slot = self.some_slot(world);
         match place {
             Place::TableByte => {
@@ -83,9 +84,8 @@ impl Generator {
                 self.flip_bit(world, sector);
             }
             Place::FreeCount => {
-                let near =
-                    free_count(world.disk()).wrapping_add(self.random.pick(&[1, 65535, 256]));
-                self.poke_word(TABLE + 3, near);
+                let change = self.random.pick(&[1, 65535, 256]);
+                self.poke_word(TABLE + 3, free_count(world.disk()).wrapping_add(change));
             }
             Place::Flag => self.damage_flag(slot),
             Place::Count => self.damage_count(world, slot),
@@ -93,23 +93,27 @@ impl Generator {
                 let sector = self.sector_of(world, slot);
                 self.poke_word(slot_start(slot) + 3, sector);
             }
-            Place::NameByte => {
-                let byte = self.random.pick(b" A1a.\x9b\0\xff");
-                let place = self.random.below(11);
-                self.poke(slot_start(slot) + 5 + place, byte);
-            }
-            Place::Name => {
-                let other = self.some_slot(world);
-                for (place, byte) in slot_name(world.disk(), other).into_iter().enumerate() {
-                    self.poke(slot_start(slot) + 5 + place, byte);
-                }
-            }
+            Place::Name => self.damage_name(world, slot),
             Place::Tail => self.damage_tail(world, slot),
             Place::Anything => {
                 let at = self.random.below(720 * 128);
                 let value = self.random.byte();
                 self.poke(at, value);
             }
+        }
+    }
+
+    /// Changes one byte of a slot's name, or gives it another slot's.
+    fn damage_name(&mut self, world: &World, slot: u8) {
+        let at = slot_start(slot) + 5;
+        if self.random.chance(500) {
+            let byte = self.random.pick(b" A1a.\x9b\0\xff");
+            let place = self.random.below(11);
+            return self.poke(at + place, byte);
+        }
+        let other = self.some_slot(world);
+        for (place, byte) in slot_name(world.disk(), other).into_iter().enumerate() {
+            self.poke(at + place, byte);
         }
     }
 
