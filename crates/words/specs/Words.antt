@@ -1,7 +1,9 @@
 -- The channels as words, for callers in C: five words to a channel, kind, slot, sector, offset, left. These rules are the project's own.
 use mathlib.Core.Bool.{Bool, _&&_}
 use mathlib.Core.List.{List, [], _∷_, _++_}
-use Prim.Native.Nat.{ℕ, suc, zero, _+_, _*_}
+use mathlib.Core.Logic.{_≢_}
+use mathlib.Core.Path.{_≡_}
+use Prim.Native.Nat.{ℕ, suc, zero, _+_, _*_, _<_}
 use lib.Dec.{leb, eqb}
 use lib.ListN.{length, getD, take, drop}
 use Rattle.layout.specs.declared.State.{State}
@@ -87,3 +89,8 @@ wordsAfter ws t = recordsAfter ws t 8 0
 -- the words with the record of channel c replaced
 unfoldable pub withRecord : List ℕ → ℕ → List ℕ → List ℕ
 withRecord ws c r = take (5 * c) ws ++ (r ++ drop 5 (drop (5 * c) ws))
+
+-- a table that differs from the words at most in channel c
+pub record ChangesOnly (ws : List ℕ) (c : ℕ) (t : Table) : Type 0 where
+  pub forty : length ws ≡ 40
+  pub others : (i : ℕ) → i < 8 → i ≢ c → stateOf t i ≡ stateOf (tableOf ws) i

@@ -2,6 +2,9 @@
 ghost use mathlib.Core.Path.{_≡_};
 ghost use Rattle.words.specs.Result.{packed};
 
+// What a malformed table or record answers.
+pub const MALFORMED: u64 = 255;
+
 // Status and count as one number.
 pub fn pack(status: u8, count: usize) -> u64
     ensures { λ r. ⌜ r ≡ packed status count ⌝ }

@@ -9,7 +9,7 @@ ghost use mathlib.Core.Path.{_≡_};
 ghost use Prim.Native.Nat.{_<_};
 ghost use lib.ListN.{length};
 ghost use Rattle.layout.specs.Channels.{channel};
-ghost use Rattle.words.specs.Words.{stateIn, recordAfter, recordAt, isTable, tableOf, withRecord};
+ghost use Rattle.words.specs.Words.{stateIn, recordAfter, recordAt, isTable, tableOf, wordsAfter, withRecord, ChangesOnly};
 
 // Forty words, each kind in force.
 pub fn is_table(words: &[u16]) -> bool
@@ -58,11 +58,24 @@ pub fn table_of(words: &[u16]) -> Table
 }
 
 // The words after a call that leaves channel c with this state and the others as they were.
-pub fn leave_channel(words: &mut [u16], c: usize, st: State)
+fn leave_channel(words: &mut [u16], c: usize, st: State)
     requires { ⌜ (length (now words) ≡ 40) × (c < 8) ⌝ }
     ensures { λ _. ⌜ now (words .exit) ≡ withRecord (now (words .entry)) c (recordAfter (recordAt (now (words .entry)) c) st) ⌝ }
 {
     let at = 5 * c;
     let end = at + 5;
     leave_state(&mut words[at..end], st);
+}
+
+// The words after a call on a channel that leaves this table. A channel above 7 names none of them.
+pub fn leave_table(words: &mut [u16], channel: u8, t: Table)
+    requires { ⌜ ChangesOnly (now words) channel t ⌝ }
+    ensures { λ _. ⌜ now (words .exit) ≡ wordsAfter (now (words .entry)) t ⌝ }
+{
+    if channel < 8 {
+        let i = channel as usize;
+        let c = t.channels[i];
+        let st = c.state;
+        leave_channel(words, i, st);
+    }
 }
