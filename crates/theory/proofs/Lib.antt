@@ -23,3 +23,4 @@ pub mod Contents
 pub mod Writer
 pub mod SoundAdd
 pub mod SoundGive
+pub mod SoundRestore
