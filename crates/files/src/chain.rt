@@ -1,0 +1,82 @@
+// Whether a slot's chain is clean. A walk is safe on any chain: a sector is entered only if it fits, and at most 707 are.
+use bits::data_sector;
+use image::link::next;
+use image::link::owner;
+use image::link::used;
+use image::slot::count;
+use image::slot::first;
+use volume::map::is_free;
+ghost use mathlib.Core.Path.{_≡_};
+ghost use Prim.Native.Nat.{_<_};
+ghost use lib.ListN.{length};
+ghost use Rattle.layout.specs.Image.{single, view};
+ghost use Rattle.layout.specs.File.{fits, belongs, cleanFrom, cleanAs, clean, cleanFree};
+
+// What a chain asks of its sector: a data sector that carries the slot number and holds at most 125 bytes.
+pub fn fits(image: &[u8], slot: u16, sector: u16) -> bool
+    requires { ⌜ length (now image) ≡ 92160 ⌝ }
+    ensures { λ r. ⌜ r ≡ fits single (view single (now (image .entry)) sector) slot sector ⌝ }
+{
+    if !data_sector(sector) {
+        return false;
+    }
+    (owner(image, sector) == slot) & (used(image, sector) <= 125)
+}
+
+// And it is marked used, or free where `freed` says so.
+fn belongs(image: &[u8], freed: bool, slot: u16, sector: u16) -> bool
+    requires { ⌜ length (now image) ≡ 92160 ⌝ }
+    ensures { λ r. ⌜ r ≡ belongs single freed (view single (now (image .entry))) slot sector ⌝ }
+{
+    if !fits(image, slot, sector) {
+        return false;
+    }
+    is_free(image, sector) == freed
+}
+
+// `n` steps meet only such sectors, and lead to next sector 0.
+fn clean_from(image: &[u8], freed: bool, slot: u16, n: u16, start: u16) -> bool
+    requires { ⌜ length (now image) ≡ 92160 ⌝ }
+    ensures { λ r. ⌜ r ≡ cleanFrom single freed (view single (now (image .entry))) slot n start ⌝ }
+{
+    let mut k = start;
+    let mut i: u16 = 0;
+    while i < n {
+        if !belongs(image, freed, slot, k) {
+            return false;
+        }
+        k = next(image, k);
+        i += 1;
+    }
+    k == 0
+}
+
+// The slot's count is 1 to 707, and its chain passes.
+fn clean_as(image: &[u8], freed: bool, slot: u16) -> bool
+    requires { ⌜ (length (now image) ≡ 92160) × (slot < 64) ⌝ }
+    ensures { λ r. ⌜ r ≡ cleanAs single freed (view single (now (image .entry))) slot ⌝ }
+{
+    let n = count(image, slot);
+    let within = (1 <= n) & (n <= 707);
+    if !within {
+        return false;
+    }
+    let start = first(image, slot);
+    clean_from(image, freed, slot, n, start)
+}
+
+// A slot's chain is clean.
+pub fn clean(image: &[u8], slot: u16) -> bool
+    requires { ⌜ (length (now image) ≡ 92160) × (slot < 64) ⌝ }
+    ensures { λ r. ⌜ r ≡ clean single (view single (now (image .entry))) slot ⌝ }
+{
+    clean_as(image, false, slot)
+}
+
+// Clean in every respect but that its sectors must be free.
+pub fn clean_free(image: &[u8], slot: u16) -> bool
+    requires { ⌜ (length (now image) ≡ 92160) × (slot < 64) ⌝ }
+    ensures { λ r. ⌜ r ≡ cleanFree single (view single (now (image .entry))) slot ⌝ }
+{
+    clean_as(image, true, slot)
+}

@@ -1,0 +1,93 @@
+// The chain of a slot freed or marked used: its map bits, and the free count once.
+use image::link::next;
+use image::slot::count;
+use image::slot::first;
+use image::slot::put_flag;
+use volume::map::free_count;
+use volume::map::less;
+use volume::map::set_free;
+use volume::map::set_free_count;
+use volume::map::set_used;
+ghost use mathlib.Core.Bool.{true, false};
+ghost use mathlib.Core.Path.{_≡_};
+ghost use Prim.Native.Nat.{_<_};
+ghost use lib.ListN.{length};
+ghost use Rattle.layout.specs.Image.{single, view};
+ghost use Rattle.layout.specs.Volume.{freeBits, useBits, useAll};
+ghost use Rattle.layout.specs.File.{cleanFrom, clean, cleanFree, sectorsFrom, chain, freeChain, delete, restore};
+
+// The bits of `n` sectors of a clean chain set.
+fn free_bits(image: &mut [u8], slot: u16, n: u16, start: u16)
+    requires { ⌜ (length (now image) ≡ 92160) × (cleanFrom single false (view single (now image)) slot n start ≡ true) ⌝ }
+    ensures { λ _. ⌜ view single (now (image .exit)) ≡ freeBits (sectorsFrom single (view single (now (image .entry))) n start) (view single (now (image .entry))) ⌝ }
+{
+    let mut k = start;
+    let mut i: u16 = 0;
+    while i < n {
+        let after = next(image, k);
+        set_free(image, k);
+        k = after;
+        i += 1;
+    }
+}
+
+// The bits of `n` sectors of a chain that is clean but for its free sectors cleared.
+fn use_bits(image: &mut [u8], slot: u16, n: u16, start: u16)
+    requires { ⌜ (length (now image) ≡ 92160) × (cleanFrom single true (view single (now image)) slot n start ≡ true) ⌝ }
+    ensures { λ _. ⌜ view single (now (image .exit)) ≡ useBits (sectorsFrom single (view single (now (image .entry))) n start) (view single (now (image .entry))) ⌝ }
+{
+    let mut k = start;
+    let mut i: u16 = 0;
+    while i < n {
+        let after = next(image, k);
+        set_used(image, k);
+        k = after;
+        i += 1;
+    }
+}
+
+// The chain freed.
+pub fn free_chain(image: &mut [u8], slot: u16)
+    requires { ⌜ (length (now image) ≡ 92160) × (slot < 64) × (clean single (view single (now image)) slot ≡ true) ⌝ }
+    ensures { λ _. ⌜ view single (now (image .exit)) ≡ freeChain single (view single (now (image .entry))) slot ⌝ }
+{
+    let had = free_count(image);
+    let n = count(image, slot);
+    let start = first(image, slot);
+    free_bits(image, slot, n, start);
+    set_free_count(image, had as u32 + n as u32);
+}
+
+// Delete frees the chain and sets the flag to $80.
+pub fn delete(image: &mut [u8], slot: u16)
+    requires { ⌜ (length (now image) ≡ 92160) × (slot < 64) × (clean single (view single (now image)) slot ≡ true) ⌝ }
+    ensures { λ _. ⌜ view single (now (image .exit)) ≡ delete single (view single (now (image .entry))) slot ⌝ }
+{
+    free_chain(image, slot);
+    put_flag(image, slot, 0x80);
+}
+
+// The chain marked used; its length.
+fn use_chain(image: &mut [u8], slot: u16) -> usize
+    requires { ⌜ (length (now image) ≡ 92160) × (slot < 64) × (cleanFree single (view single (now image)) slot ≡ true) ⌝ }
+    ensures { λ r. ⌜ (r ≡ length (chain single (view single (now (image .entry))) slot))
+        × (view single (now (image .exit)) ≡ useAll (chain single (view single (now (image .entry))) slot) (view single (now (image .entry)))) ⌝ }
+{
+    let had = free_count(image);
+    let n = count(image, slot);
+    let start = first(image, slot);
+    use_bits(image, slot, n, start);
+    set_free_count(image, less(had, n));
+    n as usize
+}
+
+// Recovery marks the chain used, lowers the free count and sets $42; it reports the number of sectors.
+pub fn restore(image: &mut [u8], slot: u16) -> usize
+    requires { ⌜ (length (now image) ≡ 92160) × (slot < 64) × (cleanFree single (view single (now image)) slot ≡ true) ⌝ }
+    ensures { λ r. ⌜ (r ≡ length (chain single (view single (now (image .entry))) slot))
+        × (view single (now (image .exit)) ≡ restore single (view single (now (image .entry))) slot) ⌝ }
+{
+    let n = use_chain(image, slot);
+    put_flag(image, slot, 0x42);
+    n
+}
