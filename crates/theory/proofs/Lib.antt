@@ -24,3 +24,5 @@ pub mod Writer
 pub mod SoundAdd
 pub mod SoundGive
 pub mod SoundRestore
+pub mod SoundPut
+pub mod SoundFirst

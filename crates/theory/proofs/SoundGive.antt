@@ -12,7 +12,7 @@ use Rattle.layout.specs.declared.Table.{Table}
 use Rattle.layout.specs.Basics.{valuesFrom, member}
 use Rattle.layout.specs.Image.{Disk, Geometry}
 use Rattle.layout.specs.Volume.{dataSector, free, marked}
-use Rattle.layout.specs.Directory.{entry, flag, first}
+use Rattle.layout.specs.Directory.{entry, flag, first, name}
 use Rattle.layout.specs.File.{owner, next, used, fits, chain, content, file, give}
 use Rattle.layout.specs.Channels.{stateOf, withState}
 use Rattle.layout.proofs.Count.{data-most}
@@ -66,6 +66,9 @@ module _ (g : Geometry) (d : Disk) (t : Table) (a : Sound g d t) (i s p : ℕ) (
 
   same-fl : flag d2 s ≡ flag d s
   same-fl = byte 0 (omega arith) (omega arith) (omega arith)
+
+  pub name-give : (j : ℕ) → j < 11 → name (give g d s p q) s j ≡ name d s j
+  name-give j v = byte (5 + j) (omega arith) (omega arith) (omega arith)
 
   same-start : first d2 s ≡ first d s
   same-start = rw (byte 3 (omega arith) (omega arith) (omega arith), byte 4 (omega arith) (omega arith) (omega arith))
@@ -122,7 +125,7 @@ module _ (g : Geometry) (d : Disk) (t : Table) (a : Sound g d t) (i s p : ℕ) (
       }
 
   change-give : Change g d d2 s l2
-  change-give = change-chain g d t a s (b .stands) d2 l2 (later-other g d s q (b .slot) hq p (b .datum)) same-fl (λ j v. byte (5 + j) (omega arith) (omega arith) (omega arith))
+  change-give = change-chain g d t a s (b .stands) d2 l2 (later-other g d s q (b .slot) hq p (b .datum)) same-fl name-give
       (λ y h f o. (same-row y h (apart y f) (λ r. o (ap (λ v. owner g (d v)) r ∙ fits-owner g (d p) s p (b .fit))), rw new-table (marked-other d q y (apart y f) ∙ f)))
       (rw new-table (marked-good d q hq fq (good-facts (d 360) (a .table))))
       (marked-of g d2 s false l2 chain2 marks2)
