@@ -26,3 +26,4 @@ pub mod SoundGive
 pub mod SoundRestore
 pub mod SoundPut
 pub mod SoundFirst
+pub mod SoundCommands
