@@ -1,6 +1,6 @@
 // Get on one channel, a sector's run of bytes at a time.
-use super::seek::fits;
 use super::seek::seek_byte;
+use files::chain::fits;
 use image::link::used;
 use layout::State;
 use layout::status;
@@ -9,23 +9,14 @@ use rules::Got;
 use rules::Place;
 use rules::Seek;
 use runs::run::get_run;
+use runs::run::least;
 ghost use mathlib.Core.Path.{_≡_};
-ghost use Prim.Native.Nat.{_≤_, _<_};
+ghost use Prim.Native.Nat.{_<_};
 ghost use lib.ListN.{length};
 ghost use Rattle.layout.specs.Image.{single, view};
 ghost use Rattle.layout.specs.declared.State.the-variants.{Reading};
 ghost use Rattle.rules.specs.Get.{advanced, getFrom, readable, getOn};
 ghost use Rattle.gets.specs.Entered.{Entered};
-
-// The lesser of two numbers.
-fn least(a: usize, b: usize) -> usize
-    ensures { λ r. ⌜ (r ≤ a) × (r ≤ b) × (0 < a → 0 < b → 0 < r) ⌝ }
-{
-    if a < b {
-        return a;
-    }
-    b
-}
 
 // What reading bytes leaves.
 fn got(status: u8, count: usize, place: Place) -> Got

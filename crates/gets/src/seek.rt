@@ -1,7 +1,6 @@
 // The search for a channel's next byte.
-use bits::data_sector;
+use files::chain::fits;
 use image::link::next;
-use image::link::owner;
 use image::link::used;
 use image::slot::first;
 use rules::Place;
@@ -10,20 +9,8 @@ ghost use mathlib.Core.Path.{_≡_};
 ghost use Prim.Native.Nat.{_≤_, _<_};
 ghost use lib.ListN.{length};
 ghost use Rattle.layout.specs.Image.{single, view};
-ghost use Rattle.layout.specs.File.{fits};
 ghost use Rattle.rules.specs.Get.{nextToEnter, hasByte, ends, seek};
 ghost use Rattle.gets.specs.Entered.{Entered, Sought};
-
-// What a chain asks of its sector: a data sector that carries the slot number and holds at most 125 bytes.
-pub fn fits(image: &[u8], slot: u16, sector: u16) -> bool
-    requires { ⌜ length (now image) ≡ 92160 ⌝ }
-    ensures { λ r. ⌜ r ≡ fits single (view single (now (image .entry)) sector) slot sector ⌝ }
-{
-    if !data_sector(sector) {
-        return false;
-    }
-    (owner(image, sector) == slot) & (used(image, sector) <= 125)
-}
 
 // A byte of the entered sector is left.
 fn has_byte(image: &[u8], sector: u16, offset: u16) -> bool

@@ -1,7 +1,7 @@
 // A run of a sector's bytes, written and read.
 use super::copy::copy;
 ghost use mathlib.Core.Path.{_≡_};
-ghost use Prim.Native.Nat.{_+_, _≤_};
+ghost use Prim.Native.Nat.{_+_, _≤_, _<_};
 ghost use lib.ListN.{length};
 ghost use lib.Seq.{sets};
 ghost use Rattle.layout.specs.Basics.{valuesFrom};
@@ -24,4 +24,14 @@ pub fn get_run(image: &[u8], sector: u16, place: usize, n: usize, buffer: &mut [
     let start = (sector as usize - 1) * 128 + place;
     let end = start + n;
     copy(buffer, at, &image[start..end]);
+}
+
+// The lesser of two numbers: a run ends where the sector's bytes or the buffer's do.
+pub fn least(a: usize, b: usize) -> usize
+    ensures { λ r. ⌜ (r ≤ a) × (r ≤ b) × (0 < a → 0 < b → 0 < r) ⌝ }
+{
+    if a < b {
+        return a;
+    }
+    b
 }
