@@ -1,0 +1,97 @@
+// Put on one channel.
+use super::add::put_from;
+use files::chain::fits;
+use image::link::next;
+use image::slot::count;
+use image::slot::flag;
+use layout::State;
+use layout::status;
+use rules::Advanced;
+use volume::table::table_good;
+ghost use mathlib.Core.Path.{_≡_};
+ghost use lib.ListN.{length};
+ghost use Rattle.layout.specs.Image.{single, view};
+ghost use Rattle.layout.specs.declared.State.the-variants.{Writing};
+ghost use Rattle.rules.specs.Get.{advanced};
+ghost use Rattle.rules.specs.Put.{isOutput, writable, putOn};
+
+// The slot is open for output: $43. A slot above 63 counts as one that is not.
+pub fn is_output(image: &[u8], slot: u16) -> bool
+    requires { ⌜ length (now image) ≡ 92160 ⌝ }
+    ensures { λ r. ⌜ r ≡ isOutput (view single (now (image .entry))) slot ⌝ }
+{
+    if 64 <= slot {
+        return false;
+    }
+    flag(image, slot) == 0x43
+}
+
+// So is it, with a count of at most 707, and its last sector fits and has next sector 0.
+fn writable(image: &[u8], slot: u16, last: u16) -> bool
+    requires { ⌜ length (now image) ≡ 92160 ⌝ }
+    ensures { λ r. ⌜ r ≡ writable single (view single (now (image .entry))) slot last ⌝ }
+{
+    if !is_output(image, slot) {
+        return false;
+    }
+    if !fits(image, slot, last) {
+        return false;
+    }
+    (count(image, slot) <= 707) & (next(image, last) == 0)
+}
+
+// An answer, with the writing channel after it.
+fn writing(status: u8, count: usize, slot: u16, last: u16) -> Advanced
+    ensures { λ r. ⌜ r ≡ advanced status count (Writing slot last) ⌝ }
+{
+    Advanced {
+        status,
+        count,
+        state: State::Writing { slot, last },
+    }
+}
+
+// Put on a writing channel.
+fn put_writing(image: &mut [u8], slot: u16, last: u16, buffer: &[u8]) -> Advanced
+    requires { ⌜ length (now image) ≡ 92160 ⌝ }
+    ensures { λ r. ⌜ (r ≡ putOn single (view single (now (image .entry))) (Writing slot last) (now (buffer .entry)) .answer)
+        × (view single (now (image .exit)) ≡ putOn single (view single (now (image .entry))) (Writing slot last) (now (buffer .entry)) .disk) ⌝ }
+{
+    if buffer.len() == 0 {
+        return writing(status::SUCCESS, 0, slot, last);
+    }
+    if !table_good(image) {
+        return writing(status::BAD_TABLE, 0, slot, last);
+    }
+    if !writable(image, slot, last) {
+        return writing(status::BAD_CHAIN, 0, slot, last);
+    }
+    let a = put_from(image, slot, last, buffer);
+    writing(a.status, a.count, slot, a.last)
+}
+
+// Put on one channel adds the lent bytes at the end.
+pub fn put_on(image: &mut [u8], st: State, buffer: &[u8]) -> Advanced
+    requires { ⌜ length (now image) ≡ 92160 ⌝ }
+    ensures { λ r. ⌜ (r ≡ putOn single (view single (now (image .entry))) st (now (buffer .entry)) .answer)
+        × (view single (now (image .exit)) ≡ putOn single (view single (now (image .entry))) st (now (buffer .entry)) .disk) ⌝ }
+{
+    match st {
+        State::Closed => Advanced {
+            status: status::CHANNEL_CLOSED,
+            count: 0,
+            state: st,
+        },
+        State::Reading {
+            slot: _,
+            sector: _,
+            offset: _,
+            left: _,
+        } => Advanced {
+            status: status::READ_ONLY,
+            count: 0,
+            state: st,
+        },
+        State::Writing { slot, last } => put_writing(image, slot, last, buffer),
+    }
+}
