@@ -27,3 +27,4 @@ pub mod SoundRestore
 pub mod SoundPut
 pub mod SoundFirst
 pub mod SoundCommands
+pub mod SoundOpen

@@ -63,7 +63,7 @@ module _ (g : Geometry) (d : Disk) (t : Table) (a : Sound g d t) (s : ℕ) where
     my-marks = clean-used g d s (a .chains s w)
 
     -- the disk with the chain freed: used then is what was used before by another slot
-    freed-back : (x : ℕ) → dataSector x ≡ true → free (freeAll (chain g d s) d 360) x ≡ false → (free (d 360) x ≡ false) × (owner g (d x) ≢ s)
+    pub freed-back : (x : ℕ) → dataSector x ≡ true → free (freeAll (chain g d s) d 360) x ≡ false → (free (d 360) x ≡ false) × (owner g (d x) ≢ s)
     freed-back x h u = go (member x (chain g d s)) refl
       where
         go : (b : Bool) → member x (chain g d s) ≡ b → (free (d 360) x ≡ false) × (owner g (d x) ≢ s)
@@ -72,14 +72,14 @@ module _ (g : Geometry) (d : Disk) (t : Table) (a : Sound g d t) (s : ℕ) where
             let v : free (d 360) x ≡ false = sym (freeAll-out (chain g d s) d x m) ∙ u in
             (v, λ o. true≢false (sym (on-chain x h v o .1) ∙ m))
 
-    freed-keep : (x : ℕ) → free (d 360) x ≡ false → owner g (d x) ≢ s → free (freeAll (chain g d s) d 360) x ≡ false
+    pub freed-keep : (x : ℕ) → free (d 360) x ≡ false → owner g (d x) ≢ s → free (freeAll (chain g d s) d 360) x ≡ false
     freed-keep x u o = go (member x (chain g d s)) refl
       where
         go : (b : Bool) → member x (chain g d s) ≡ b → free (freeAll (chain g d s) d 360) x ≡ false
         go true m = absurd (o (my-marks .owners x m))
         go false m = freeAll-out (chain g d s) d x m ∙ u
 
-    freed-good : Good (freeAll (chain g d s) d 360)
+    pub freed-good : Good (freeAll (chain g d s) d 360)
     freed-good = freeAll-good (chain g d s) d (my-marks .distinct) (my-marks .marks) (my-marks .datas) (good-facts (d 360) (a .table))
 
     -- the chain freed and the slot marked deleted
