@@ -1,0 +1,48 @@
+// Showing: the bytes in use of one sector, as that part of the lent image.
+use files::chain::fits;
+use image::link::used;
+ghost use mathlib.Core.Path.{_≡_};
+ghost use Rattle.layout.specs.Image.{single};
+ghost use Rattle.rules.specs.Showing.{shows, shownStart, shownLength, shownPart};
+
+// Yes or no: a get, with sectors left, could enter the sector for the named slot.
+pub fn shows(image: &[u8], slot: u16, sector: u16) -> bool
+    ensures { λ r. ⌜ r ≡ shows single (now (image .entry)) slot sector ⌝ }
+{
+    if image.len() != 92160 {
+        return false;
+    }
+    if 64 <= slot {
+        return false;
+    }
+    fits(image, slot, sector)
+}
+
+// Where the part starts.
+pub fn shown_start(image: &[u8], slot: u16, sector: u16) -> usize
+    ensures { λ r. ⌜ r ≡ shownStart single (now (image .entry)) slot sector ⌝ }
+{
+    if !shows(image, slot, sector) {
+        return 0;
+    }
+    (sector as usize - 1) * 128
+}
+
+// Its length.
+pub fn shown_length(image: &[u8], slot: u16, sector: u16) -> usize
+    ensures { λ r. ⌜ r ≡ shownLength single (now (image .entry)) slot sector ⌝ }
+{
+    if !shows(image, slot, sector) {
+        return 0;
+    }
+    used(image, sector) as usize
+}
+
+// The part itself.
+pub fn shown(image: &[u8], slot: u16, sector: u16) -> &[u8]
+    ensures { λ r. ⌜ now r ≡ shownPart single (now (image .entry)) slot sector ⌝ }
+{
+    let start = shown_start(image, slot, sector);
+    let end = start + shown_length(image, slot, sector);
+    &image[start..end]
+}
