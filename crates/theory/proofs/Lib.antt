@@ -28,3 +28,5 @@ pub mod SoundPut
 pub mod SoundFirst
 pub mod SoundCommands
 pub mod SoundOpen
+pub mod SoundGet
+pub mod SoundCalls
