@@ -1,0 +1,43 @@
+// The thin calls: one channel record is lent, to be advanced by a read or a write.
+pub mod by_value;
+
+use by_value::Moved;
+use by_value::read_on;
+use by_value::write_on;
+use layout::Channel;
+use rules::Reply;
+ghost use mathlib.Core.Path.{_≡_};
+ghost use lib.ListN.{length};
+ghost use Rattle.layout.specs.Image.{single, imageOf};
+ghost use Rattle.rules.specs.Thin.{replyOf, channelAfter, thinGet, thinPut};
+ghost use Rattle.thin.specs.Moves.{moved, told};
+
+// Fills the lent buffer from the lent record on.
+pub fn thin_get(image: &[u8], channel: &mut Channel, buffer: &mut [u8]) -> Reply
+    ensures { λ r. ⌜ (r ≡ replyOf (thinGet single (now (image .entry)) (now (channel .entry)) (now (buffer .entry)) .answer))
+        × (now (channel .exit) ≡ channelAfter (thinGet single (now (image .entry)) (now (channel .entry)) (now (buffer .entry)) .answer))
+        × (now (buffer .exit) ≡ thinGet single (now (image .entry)) (now (channel .entry)) (now (buffer .entry)) .buffer) ⌝ }
+{
+    let before = *channel;
+    let after = read_on(image, before, buffer);
+    *channel = after.channel;
+    Reply {
+        status: after.status,
+        count: after.count,
+    }
+}
+
+// Adds the lent bytes at the end of the lent record's file.
+pub fn thin_put(image: &mut [u8], channel: &mut Channel, buffer: &[u8]) -> Reply
+    ensures { λ r. ⌜ (r ≡ replyOf (thinPut single (now (image .entry)) (now (channel .entry)) (now (buffer .entry)) .answer))
+        × (now (channel .exit) ≡ channelAfter (thinPut single (now (image .entry)) (now (channel .entry)) (now (buffer .entry)) .answer))
+        × (now (image .exit) ≡ imageOf single (length (now (image .entry))) (thinPut single (now (image .entry)) (now (channel .entry)) (now (buffer .entry)) .disk)) ⌝ }
+{
+    let before = *channel;
+    let after = write_on(image, before, buffer);
+    *channel = after.channel;
+    Reply {
+        status: after.status,
+        count: after.count,
+    }
+}
