@@ -6,14 +6,14 @@ use lib.ListN.{length, drop, length-set}
 use lib.Seq.{sets}
 use Rattle.runs.proofs.Runs.{sets-next, sets-end}
 use borrow.Author.Needs.{needs}
-use Rattle.runs.proofs.copy.copy_part.Statement.{statement}
-use Rattle.runs.proofs.copy.copy_part.Tie as tie
+use Rattle.runs.proofs.copy.copy_bytes.Statement.{statement}
+use Rattle.runs.proofs.copy.copy_bytes.Tie as tie
 
 abbrev Inv-loop : tie.InvT-loop
-Inv-loop to₀ at from j₀ to j = (j ≤ length from) × (length to ≡ length to₀) × (sets to₀ at from ≡ sets to (at + j) (drop j from))
+Inv-loop to₀ at from n j₀ to j = (j ≤ n) × (length to ≡ length to₀) × (sets to₀ at from ≡ sets to (at + j) (drop j from))
 
 abbrev μ-loop : tie.MeasureT-loop
-μ-loop to₀ at from j₀ to j = length from - j
+μ-loop to₀ at from n j₀ to j = n - j
 
 loop-holds : tie.Need-loop-holds Inv-loop μ-loop
 loop-holds c = (omega arith, refl, rw add-zero)
@@ -45,8 +45,8 @@ same-length c = c .before .loop .inv .1
 returns : tie.Need-returns Inv-loop μ-loop
 returns c = let h : length (c .before .before .args .from .now) ≤ c .before .loop .j = omega arith in sym (c .before .loop .inv .2 ∙ sets-end _ _ _ _ h)
 
-pub copy-part-spec : {M : Type 1} → statement M
-copy-part-spec =
+pub copy-bytes-spec : {M : Type 1} → statement M
+copy-bytes-spec =
     tie.close
     (tie.spec
     Inv-loop
