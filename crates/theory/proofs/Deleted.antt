@@ -22,7 +22,7 @@ use Rattle.rules.specs.Demand.{cioOf, System, after, perform}
 use Rattle.theory.proofs.Checks.{by-check, by-name, by-found}
 
 -- a name's refusal is never 1
-refused-not-one : (text : List ℕ) (n : ℕ) → readName text ≡ Refused n → n ≢ 1
+pub refused-not-one : (text : List ℕ) (n : ℕ) → readName text ≡ Refused n → n ≢ 1
 unfolding readName readAs nameAt
 refused-not-one text n = by-check P _ _ _ (λ _ e. other 130 (omega arith) e) λ _. by-check P _ _ _ (λ _ e. other 160 (omega arith) e) λ _. go (wellFormed _ text (body text)) _ _
   where

@@ -30,3 +30,6 @@ pub mod SoundCommands
 pub mod SoundOpen
 pub mod SoundGet
 pub mod SoundCalls
+pub mod Rows
+pub mod Written
+pub mod ReadBack

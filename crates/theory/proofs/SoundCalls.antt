@@ -13,7 +13,7 @@ use Rattle.layout.specs.Directory.{flag, count}
 use Rattle.layout.specs.Channels.{stateOf, withState}
 use Rattle.layout.specs.Names.{nameByte}
 use Rattle.layout.proofs.Channels.{not-open, with-id}
-use Rattle.rules.specs.Put.{PutOutcome, puts, putOn}
+use Rattle.rules.specs.Put.{putOn}
 use Rattle.rules.specs.Commands.{Effect, putAt, openRead, openFound, openNew, openWrite, openCall}
 use Rattle.rules.specs.Cio.{Outcome, command, cio}
 use Rattle.rules.specs.Demand.{Call, cioOf, recoveryOf, System, after, perform, run}
@@ -23,7 +23,7 @@ use Rattle.theory.proofs.Names.{name-legal}
 use Rattle.theory.proofs.Standing.{not-output}
 use Rattle.theory.proofs.Find.{find-at}
 use Rattle.theory.proofs.SoundChan.{closed-still, sound-place}
-use Rattle.theory.proofs.SoundPut.{put-adds}
+use Rattle.theory.proofs.SoundPut.{put-on}
 use Rattle.theory.proofs.SoundOpen.{begins-over, begins-new}
 use Rattle.theory.proofs.SoundGet.{get-sound}
 use Rattle.theory.proofs.SoundRestore.{recover-sound}
@@ -54,18 +54,13 @@ module _ (g : Geometry) (roomy : 0 < g .room) (d : Disk) (t : Table) (a : Sound 
     open-sound = by-check P _ _ _ (λ _. a) λ q. by-check P _ _ _ (λ _. a) λ _. let shut = not-open t (c .channel) q in by-check P _ _ _ (λ _. open-read-sound shut) λ _. by-check P _ _ _ (λ _. open-write-sound shut) λ _. a
 
     put-sound : (b : List ℕ) → P (putAt g d t (c .channel) b)
-    unfolding putAt putOn puts
+    unfolding putAt putOn
     put-sound b = go (stateOf t (c .channel)) refl
       where
-        Q : PutOutcome → Type 0
-        Q o = Sound g (o .disk) (withState t (c .channel) (o .answer .state))
-
-        go : (st : State) → stateOf t (c .channel) ≡ st → Q (putOn g d st b)
+        go : (st : State) → stateOf t (c .channel) ≡ st → Sound g (putOn g d st b .disk) (withState t (c .channel) (putOn g d st b .answer .state))
         go Closed e = rw (with-id t (c .channel) Closed e) a
         go (Reading s k o l) e = rw (with-id t (c .channel) (Reading s k o l) e) a
-        go (Writing s p) e =
-            let same : Sound g d (withState t (c .channel) (Writing s p)) = rw (with-id t (c .channel) (Writing s p) e) a in
-            by-check Q _ _ _ (λ _. same) λ _. by-check Q _ _ _ (λ _. same) λ _. by-check Q _ _ _ (λ _. same) λ _. put-adds g (c .channel) s roomy z b d t p 0 a e .sound
+        go (Writing s p) e = put-on g (c .channel) s roomy z d t p a e b .sound
 
     command-sound : (b : List ℕ) → P (command g d t c text b)
     unfolding command

@@ -1,29 +1,32 @@
 -- A put keeps a disk sound and adds to the file the bytes that fit.
+use mathlib.Core.Bool.{Bool, true, false, true≢false}
 use mathlib.Core.List.{List, [], _∷_, _++_, append-nil}
 use mathlib.Core.Logic.{_≢_}
 use mathlib.Core.Path.{_≡_, refl, sym, _∙_}
 use Prim.Native.Nat.{ℕ, suc, _+_, _≤_, _<_}
 use native.Mathlib.Decide.{ℕ-discrete, decLt}
+use native.Mathlib.Nat.{zero-add}
 use native.Mathlib.Omega.{arith}
 use lib.Dec.{eqb, eqb·suc-suc, eqb·zero-suc}
 use lib.ListN.{length, take}
 use lib.Seq.{append-snoc}
-use borrow.Author.Tests.{lt-ltb, le-ltb, eq-eqb, ne-eqb}
+use borrow.Author.Tests.{eqb-true, lt-ltb, le-ltb, le-leb, eq-eqb, ne-eqb}
 use Rattle.layout.specs.declared.State.{State}
 use Rattle.layout.specs.declared.State.the-variants.{Writing}
 use Rattle.layout.specs.declared.Table.{Table}
 use Rattle.layout.specs.Basics.{if}
 use Rattle.layout.specs.Image.{Disk, Geometry}
 use Rattle.layout.specs.Volume.{lowest}
-use Rattle.layout.specs.Directory.{name}
-use Rattle.layout.specs.File.{used, file, give}
+use Rattle.layout.specs.Directory.{flag, count, name}
+use Rattle.layout.specs.File.{next, used, file, give}
 use Rattle.layout.specs.Channels.{stateOf, withState}
 use Rattle.layout.specs.Status.{success, diskFull}
 use Rattle.layout.proofs.Channels.{with-id, with-with}
 use Rattle.layout.proofs.Data.{data-facts}
 use Rattle.layout.proofs.Good.{good-facts, lowest-free}
-use Rattle.rules.specs.Put.{Adds, adds, Room, roomIn, roomFor, addByte, putFrom}
+use Rattle.rules.specs.Put.{Adds, adds, Room, roomIn, roomFor, addByte, putFrom, PutOutcome, putKeeps, puts, isOutput, writable, putOn}
 use Rattle.rules.specs.Sound.{Sound}
+use Rattle.theory.proofs.Checks.{by-check}
 use Rattle.theory.proofs.Give.{give-given}
 use Rattle.theory.proofs.SoundChan.{state-at}
 use Rattle.theory.proofs.Writer.{writer}
@@ -121,3 +124,46 @@ module _ (g : Geometry) (i s : ℕ) where
             rw (put-next g d s p x xs n (roomIn q (give g d s p q) (q ∷ [])) (room-new g d s p q (omega arith) refl v) v)
             (next (give g d s p q) (withState t i (Writing s q)) q (q ∷ []) (sound-give g d t a i s p z e q h f) (state-at g d t a i z (Writing s q)) (rw (give-given g d s q (b .slot) h p .empty) roomy)
             (file-give g d t a i s p z e q h f) (name-give g d t a i s p z e q h f) (with-with t i (Writing s q)) more)
+
+-- a put on a writing channel of a sound disk: every test passes, and the file has the bytes that are counted
+module _ (g : Geometry) (i s : ℕ) where
+  pub record PutsOn (d : Disk) (t : Table) (b : List ℕ) (o : PutOutcome) : Type 0 where
+    pub last : ℕ
+    pub state : o .answer .state ≡ Writing s last
+    pub sound : Sound g (o .disk) (withState t i (o .answer .state))
+    pub named : (j : ℕ) → j < 11 → name (o .disk) s j ≡ name d s j
+    pub bytes : file g (o .disk) s ≡ file g d s ++ take (o .answer .count) b
+    pub whole : o .answer .status ≡ success → o .answer .count ≡ length b
+
+  module _ (roomy : 0 < g .room) (z : i < 8) (d : Disk) (t : Table) (p : ℕ) (a : Sound g d t) (e : stateOf t i ≡ Writing s p) where
+    writable-here : writable g d s p ≡ true
+    unfolding writable isOutput
+    writable-here =
+        let w = writer g d t a i s p z e in
+        let k = w .marks .whole in
+        rw (lt-ltb s 64 (w .slot), eq-eqb (flag d s) 0x43 (w .opened), w .fit, le-leb (count d s) 707 (let n = k .size in let m = k .most in omega arith), eq-eqb (next g (d p)) 0 (w .end))
+
+    pub put-on : (b : List ℕ) → PutsOn d t b (putOn g d (Writing s p) b)
+    unfolding putOn puts
+    put-on b = by-check (PutsOn d t b) _ _ _ (λ n. nothing (eqb-true (length b) 0 n)) λ _. by-check (PutsOn d t b) _ _ _ (λ q. absurd (true≢false (sym q ∙ rw (a .table)))) λ _.
+        by-check (PutsOn d t b) _ _ _ (λ q. absurd (true≢false (sym q ∙ rw writable-here))) λ _. added
+      where
+        nothing : length b ≡ 0 → PutsOn d t b (putKeeps success d (Writing s p))
+        nothing n = record { last = p; state = refl; sound = rw (with-id t i (Writing s p) e) a; named = λ j _. refl; bytes = sym (append-nil (file g d s)); whole = λ _. sym n }
+
+        r : Puts g i s d t 0 b (putFrom g b d s p 0)
+        r = put-adds g i s roomy z b d t p 0 a e
+
+        added : PutsOn d t b (puts s (putFrom g b d s p 0))
+        added = record {
+          last = putFrom g b d s p 0 .added .last;
+          state = refl;
+          sound = r .sound;
+          named = r .named;
+          bytes = r .bytes ∙ rw (r .count, zero-add);
+          whole = λ q. r .count ∙ zero-add (r .fitted) ∙ full (eqb (r .fitted) (length b)) refl (sym (r .status) ∙ q);
+        }
+          where
+            full : (c : Bool) → eqb (r .fitted) (length b) ≡ c → if c success diskFull ≡ success → r .fitted ≡ length b
+            full true h q = eqb-true (r .fitted) (length b) h
+            full false h q = absurd (omega arith)
