@@ -22,9 +22,10 @@ put-flag-requires c κs = search needs
 
 give-requires : tie.Need-give-requires
 give-requires c κs =
-    let a = c .before .before .before .before .before .before .before .before .before .before .before .before .args in
+    let start = c .before .before .before .before .before .before .before .before .before .before .before .before in
+    let a = start .args in
     let the-lowest-free = c .before .before .before .before .before .lowest-free in
-    let p = c .before .before .before .before .before .before .before .before .before .before .before .before .pre in
+    let p = start .pre in
     let k = lowest (freeChain single (view single (a .image .now)) (a .slot) 360) in
     let e : the-lowest-free .result ≡ k = the-lowest-free .ensures ∙ ap (λ d. lowest (d 360)) (c .before .before .before .before .before .before .before .before .before .free-chain .ensures) in
     let some : k ≢ 0 = freed-some single _ _ (p .2) (p .3) in
