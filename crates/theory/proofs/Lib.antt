@@ -11,6 +11,7 @@ pub mod Checks
 pub mod Reading
 pub mod Gets
 pub mod Change
+pub mod SoundChange
 pub mod PutStep
 pub mod CommandStep
 pub mod Calls

@@ -15,7 +15,7 @@ use Rattle.layout.specs.declared.Found.the-variants.{At, Nothing}
 use Rattle.layout.specs.declared.Name.the-variants.{Is}
 use Rattle.layout.specs.declared.Table.{Table}
 use Rattle.rules.specs.declared.Block.{Block}
-use Rattle.layout.specs.Image.{Disk, Geometry}
+use Rattle.layout.specs.Image.{Disk, Geometry, single}
 use Rattle.layout.specs.Volume.{bit, isSet}
 use Rattle.layout.specs.Directory.{flag, count, sameName, standing, output, putFlag, find}
 use Rattle.layout.specs.File.{chain, file}
@@ -154,6 +154,7 @@ module _ (g : Geometry) (s j : ℕ) (z : j < 8) where
   gets-hand-out (cioOf c text b ∷ cs) ((e, f), es) r y h = rw (row-get g (y .disk) (y .table) c text b (rw e z) f, e) (let (p, q) = get-at r b y h in (p, gets-hand-out cs es (drop (length b) r) _ q))
   gets-hand-out (recoveryOf x ∷ cs) e r y h = absurd (e .0)
 
+-- for every geometry whose file sectors hold at least a byte
 pub read-back : (g : Geometry) → 0 < g .room → ReadBack g
 unfolding perform
 read-back g roomy x a c text b e f o puts ps close q c' again b' e' f' same z shut gets gs =
@@ -169,3 +170,7 @@ read-back g roomy x a c text b e f o puts ps close q c' again b' e' f' same z sh
       reads = rw i (gets-hand-out g (w .slot) (c' .channel) z gets gs _ _ (open-reads g (w .slot) (w .word) (w .extension) _ y1 h c' again b' z shut));
       whole = whole;
     }
+
+-- for the disks served
+pub read-back-single : ReadBack single
+read-back-single = read-back single (omega arith)

@@ -28,7 +28,7 @@ use Rattle.theory.proofs.Names.{legal-same, new-legal}
 use Rattle.theory.proofs.Standing.{same-as, stands-slot, stands-flag}
 use Rattle.theory.proofs.Find.{find-at, another-none}
 use Rattle.theory.proofs.Row.{only-name, name-byte, name-is, flag-is}
-use Rattle.theory.proofs.Change.{sound-change}
+use Rattle.theory.proofs.SoundChange.{sound-change}
 use Rattle.theory.proofs.SoundDir.{held-no, quiet, sound-delete, change-entry, change-flag}
 use Rattle.theory.proofs.SoundChan.{closed-still, reading-still, sound-shut, sound-close}
 

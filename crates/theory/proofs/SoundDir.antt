@@ -23,7 +23,8 @@ use Rattle.theory.proofs.Names.{legal-same}
 use Rattle.theory.proofs.Standing.{standing-nonzero, not-output, stands-slot, stands-flag, stands-before, stands-nonzero, same-as}
 use Rattle.theory.proofs.Row.{row, Only, data-outside, table-outside, only-flag, flag-is, flag-byte, flag-table}
 use Rattle.theory.proofs.Delete.{Marked, marked-of, clean-used, chain-frame, mark-data, mark-other, delete-is}
-use Rattle.theory.proofs.Change.{Change, Kept, sound-change}
+use Rattle.theory.proofs.Change.{Change}
+use Rattle.theory.proofs.SoundChange.{Kept, sound-change}
 
 -- a slot that is not held: no channel holds it, and it is not open for output
 pub held-no : (d : Disk) (t : Table) (s : ℕ) → held d t s ≡ false → ((j : ℕ) → j < 8 → holds (stateOf t j) s ≡ false) × (flag d s ≢ 0x43)
@@ -54,9 +55,6 @@ module _ (g : Geometry) (d : Disk) (t : Table) (a : Sound g d t) (s : ℕ) where
       go : Dec (owner g (d x) ≡ s) → OnChain g d s x ⊎ ((free (d 360) x ≡ false) × (owner g (d x) ≢ s))
       go (yes o) = inl (on-chain x h u o .1)
       go (no o) = inr (u, o)
-
-  pub earlier : flag d s ≢ 0 → s < 64 → (x : ℕ) → x < s → flag d x ≢ 0
-  earlier f z x l e = f (a .zeros x s l z e)
 
   module _ (w : Stands d s) where
     pub my-marks : Marked g d s false (chain g d s)

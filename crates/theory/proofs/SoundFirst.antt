@@ -26,7 +26,8 @@ use Rattle.theory.proofs.Row.{row}
 use Rattle.theory.proofs.Sectors.{Given}
 use Rattle.theory.proofs.Give.{give-given, first-table, first-data, first-other, first-entry, first-count, first-first}
 use Rattle.theory.proofs.Delete.{Chain, marked-of, file-is}
-use Rattle.theory.proofs.Change.{Change, sound-change}
+use Rattle.theory.proofs.Change.{Change}
+use Rattle.theory.proofs.SoundChange.{sound-change}
 use Rattle.theory.proofs.SoundChan.{closed-holds, busy}
 
 -- a disk e that has the other slots of d and their sectors, where slot s has no chain, is open for output and has a name of its own; a free sector k

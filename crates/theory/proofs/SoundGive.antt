@@ -27,7 +27,8 @@ use Rattle.theory.proofs.Sectors.{linkOf, owner-link, next-link, used-l
 use Rattle.theory.proofs.Give.{give-given, later-table, later-last, later-data, later-other, later-entry, later-count}
 use Rattle.theory.proofs.Delete.{Chain, marked-of, file-is}
 use Rattle.theory.proofs.Contents.{bytesOf, values-same, content-join, content-same}
-use Rattle.theory.proofs.Change.{Change, sound-change}
+use Rattle.theory.proofs.Change.{Change}
+use Rattle.theory.proofs.SoundChange.{sound-change}
 use Rattle.theory.proofs.SoundDir.{change-chain, whose}
 use Rattle.theory.proofs.Writer.{Writer, writer, onward}
 

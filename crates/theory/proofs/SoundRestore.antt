@@ -27,7 +27,8 @@ use Rattle.theory.proofs.Standing.{output-stands, standing-not-deleted,
 use Rattle.theory.proofs.Find.{another-none}
 use Rattle.theory.proofs.Row.{flag-is, flag-table}
 use Rattle.theory.proofs.Delete.{Marked, marked-of, clean-free, mark-data, mark-other, mark-name, mark-chain, restore-is}
-use Rattle.theory.proofs.Change.{Change, sound-change}
+use Rattle.theory.proofs.Change.{Change}
+use Rattle.theory.proofs.SoundChange.{sound-change}
 use Rattle.theory.proofs.SoundDir.{quiet, on-chain}
 use Rattle.theory.proofs.Checks.{by-check}
 
