@@ -1,0 +1,6 @@
+mod Counts
+mod Within
+mod Laws
+mod Filling
+mod Shown
+mod Exact

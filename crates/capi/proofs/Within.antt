@@ -1,0 +1,129 @@
+-- A CIO call changes at most the channel that it names, and counts at most the bytes lent.
+use mathlib.Core.Logic.{_≢_}
+use mathlib.Core.Bool.{Bool}
+use mathlib.Core.List.{List}
+use mathlib.Core.Path.{_≡_, refl, ap}
+use Prim.Native.Nat.{ℕ, _≤_}
+use native.Mathlib.Omega.{arith}
+use lib.ListN.{length}
+use borrow.Author.Tests.{le-leb}
+use Rattle.layout.specs.declared.State.{State}
+use Rattle.layout.specs.declared.State.the-variants.{Closed, Reading, Writing}
+use Rattle.layout.specs.declared.Table.{Table}
+use Rattle.layout.specs.declared.Name.{Name}
+use Rattle.layout.specs.declared.Found.{Found}
+use Rattle.layout.specs.Basics.{check}
+use Rattle.layout.specs.Directory.{found}
+use Rattle.layout.specs.Names.{named}
+use Rattle.layout.specs.Image.{Disk, Geometry, view}
+use Rattle.layout.specs.Volume.{bitOn, bitOff}
+use Rattle.layout.specs.Channels.{stateOf, withState}
+use Rattle.layout.proofs.Channels.{state-other}
+use Rattle.layout.proofs.Check.{check-yes, by-check, by-named, by-found}
+use Rattle.rules.specs.declared.Block.{Block}
+use Rattle.rules.specs.Commands.{Effect, refused, refuse, putAt, openRead, openFound, openNew, openWrite, openCall, closeState, closeCall, statusCall, renameCall, deleteCall, flagCall, lockCall, unlockCall, formatCall}
+use Rattle.capi.proofs.Counts.{get-most, put-most}
+use Rattle.rules.specs.Cio.{Outcome, getAt, command, cio, cioCall}
+
+module _ (g : Geometry) (d : Disk) (t : Table) (c : Block) (text b : List ℕ) where
+  pub record Within (e : Effect) : Type 0 where
+    pub others : (i : ℕ) → i ≢ c .channel → stateOf (e .table) i ≡ stateOf t i
+    pub most : e .count ≤ length b
+
+  -- with the table as it was, or with another state of that channel
+  kept : (status : ℕ) (e : Disk) → Within (refused status e t)
+  kept status e = record { others = λ i n. refl; most = omega arith }
+
+  moved : (e : Effect) (st : State) → e .table ≡ withState t (c .channel) st → e .count ≤ length b → Within e
+  moved e st p h = record { others = λ i n. rw p (state-other t (c .channel) st i n); most = h }
+
+  -- a row that refuses; a name and a slot that are refused or not
+  row : (test : Bool) (status : ℕ) (rest : Unit {0} → Effect) → Within (rest tt) → Within (check test (refuse g d t c text status) rest)
+  row test status rest q = by-check Within test _ rest (kept status d) q
+
+  name-row : (n : Name) (rest : (ℕ → ℕ) → Effect) → ((w : ℕ → ℕ) → Within (rest w)) → Within (named n (refuse g d t c text) rest)
+  name-row n rest q = by-named Within n (refuse g d t c text) rest (λ status. kept status d) q
+
+  slot-row : (f : Found) (status : ℕ) (rest : ℕ → Effect) → ((s : ℕ) → Within (rest s)) → Within (found f (refuse g d t c text status) rest)
+  slot-row f status rest q = by-found Within f _ rest (kept status d) q
+
+  within-open : Within (openCall g d t c text)
+  unfolding openCall openRead openWrite openNew openFound
+  within-open = row _ _ _ (row _ _ _ (by-check Within _ _ _ reading (by-check Within _ _ _ writing (kept _ _))))
+    where
+      reading : Within (openRead g d t c text)
+      reading = name-row _ _ (λ w. slot-row _ _ _ (λ s. row _ _ _ (moved _ _ refl (omega arith))))
+
+      new : (w : ℕ → ℕ) → Within (openNew g d t c text w)
+      new w = slot-row _ _ _ (λ s. row _ _ _ (moved _ _ refl (omega arith)))
+
+      old : (s : ℕ) → Within (openFound g d t c text s)
+      old s = row _ _ _ (row _ _ _ (row _ _ _ (moved _ _ refl (omega arith))))
+
+      writing : Within (openWrite g d t c text)
+      writing = name-row _ _ (λ w. row _ _ _ (by-found Within _ _ _ (new w) old))
+
+  within-close : Within (closeCall g d t c text)
+  unfolding closeCall closeState
+  within-close = go (stateOf t (c .channel))
+    where
+      go : (st : State) → Within (closeState g d t c text st)
+      go Closed = moved _ _ refl (omega arith)
+      go (Reading s k o l) = moved _ _ refl (omega arith)
+      go (Writing s p) = by-check Within _ _ _ (moved _ _ refl (omega arith)) (moved _ _ refl (omega arith))
+
+  within-status : Within (statusCall g d t c text)
+  unfolding statusCall
+  within-status = row _ _ _ (name-row _ _ (λ w. slot-row _ _ _ (λ s. row _ _ _ (kept _ _))))
+
+  within-rename : Within (renameCall g d t c text)
+  unfolding renameCall
+  within-rename = row _ _ _ (name-row _ _ (λ v. name-row _ _ (λ w. row _ _ _ (slot-row _ _ _ (λ s. row _ _ _ (row _ _ _ (row _ _ _ (kept _ _))))))))
+
+  within-delete : Within (deleteCall g d t c text)
+  unfolding deleteCall
+  within-delete = row _ _ _ (name-row _ _ (λ w. row _ _ _ (slot-row _ _ _ (λ s. row _ _ _ (row _ _ _ (row _ _ _ (kept _ _)))))))
+
+  within-flag : (change : ℕ → ℕ → ℕ) → Within (flagCall g d t c text change)
+  unfolding flagCall
+  within-flag change = row _ _ _ (name-row _ _ (λ w. row _ _ _ (slot-row _ _ _ (λ s. row _ _ _ (kept _ _)))))
+
+  within-format : Within (formatCall g d t c text)
+  unfolding formatCall
+  within-format = row _ _ _ (row _ _ _ (row _ _ _ (kept _ _)))
+
+  within-put : Within (putAt g d t (c .channel) b)
+  unfolding putAt
+  within-put = moved _ _ refl (put-most g d (stateOf t (c .channel)) b)
+
+  within-command : Within (command g d t c text b)
+  unfolding command lockCall unlockCall
+  within-command =
+      by-check Within _ _ _ within-open
+      (by-check Within _ _ _ within-put
+      (by-check Within _ _ _ within-close
+      (by-check Within _ _ _ within-status
+      (by-check Within _ _ _ within-rename
+      (by-check Within _ _ _ within-delete
+      (by-check Within _ _ _ (within-flag bitOn)
+      (by-check Within _ _ _ (within-flag bitOff)
+      (by-check Within _ _ _ within-format
+      (row _ _ _ (kept _ _))))))))))
+
+  within-cio : Within (cio g d t c text b .effect)
+  unfolding cio getAt
+  within-cio = by-check whole _ _ _ (kept _ _) (by-check whole _ _ _ (moved _ _ refl (get-most g d (stateOf t (c .channel)) b)) within-command)
+    where
+      whole : Outcome → Type 0
+      whole o = Within (o .effect)
+
+-- on an image of any length
+module _ (g : Geometry) (l : List ℕ) (t : Table) (c : Block) (text b : List ℕ) where
+  pub cio-within : Within g (view g l) t c text b (cioCall g l t c text b .effect)
+  unfolding cioCall
+  cio-within = by-check (λ (o : Outcome). Within g (view g l) t c text b (o .effect)) _ _ _ (kept g (view g l) t c text b _ _) (within-cio g (view g l) t c text b)
+
+  -- a channel above 7 is refused
+  pub none-changes : 8 ≤ c .channel → cioCall g l t c text b .effect .table ≡ t
+  unfolding cioCall cio
+  none-changes h = by-check (λ (o : Outcome). o .effect .table ≡ t) _ _ _ refl (ap (λ (o : Outcome). o .effect .table) (check-yes _ _ _ (le-leb 8 (c .channel) h)))
