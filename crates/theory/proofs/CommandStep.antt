@@ -14,19 +14,18 @@ use Rattle.rules.specs.declared.Block.{Block}
 use Rattle.layout.specs.Basics.{member}
 use Rattle.layout.specs.Image.{Disk, Geometry}
 use Rattle.layout.specs.Volume.{dataSector, bit, isSet, free, good, lowest, freeAll}
-use Rattle.layout.specs.Directory.{flag, first, putFlag, putName, standing}
+use Rattle.layout.specs.Directory.{flag, putFlag, putName, standing}
 use Rattle.layout.specs.File.{owner, clean, chain, freeChain, delete, give}
 use Rattle.layout.specs.Channels.{stateOf}
 use Rattle.layout.specs.Names.{nameByte}
-use Rattle.layout.proofs.Good.{Good, good-facts, lowest-free, lowest-some}
-use Rattle.layout.proofs.MapAll.{freeAll-sector, freeAll-in, freeAll-out, freeAll-good}
+use Rattle.layout.proofs.Good.{Good, good-facts, lowest-free}
+use Rattle.layout.proofs.MapAll.{freeAll-sector, freeAll-in, freeAll-out}
 use Rattle.rules.specs.Put.{isOutput}
 use Rattle.rules.specs.Commands.{Effect, openRead, openFound, openNew, openWrite, openCall, closeState, closeCall, statusCall, renameCall, deleteCall, flagCall, formatCall}
-use Rattle.rules.specs.Demand.{after}
 use Rattle.theory.proofs.Standing.{stands-slot, stands-flag}
 use Rattle.theory.proofs.Find.{find-at, new-slot}
 use Rattle.theory.proofs.Row.{only-flag, only-name, only-join}
-use Rattle.theory.proofs.Delete.{clean-used, marked-first}
+use Rattle.theory.proofs.Delete.{freed-table}
 use Rattle.theory.proofs.Step.{Step, step-none, step-join}
 use Rattle.theory.proofs.Effect.{step-of, keep-only, keep-table, step-first}
 use Rattle.theory.proofs.PutStep.{output-facts}
@@ -46,16 +45,6 @@ module _ (g : Geometry) (s : ℕ) (z : s < 64) where
     -- another slot's flag written
     pub flagged : (x v : ℕ) → x < 64 → s ≢ x → Step g s [] d (putFlag d x v)
     flagged x v l n = step-of g s d (putFlag d x v) (keep-only g s [] d (putFlag d x v) x (only-flag x l d v) n)
-
-    -- a clean chain freed: the table then has a free sector
-    freed-table : (x : ℕ) → clean g d x ≡ true → Good (d 360) → Good (freeChain g d x 360) × (lowest (freeChain g d x 360) ≢ 0)
-    unfolding freeChain
-    freed-table x c a =
-        let k = clean-used g d x c in
-        let l = chain g d x in
-        let after = freeAll-good l d (k .distinct) (k .marks) (k .datas) a in
-        let m = marked-first g d x false l k in
-        (after, lowest-some (freeAll l d 360) after (first d x) (freeAll-in l d (first d x) m) (k .datas (first d x) m))
 
     freed : (x : ℕ) → Step g s [] d (freeChain g d x)
     unfolding freeChain
@@ -90,7 +79,7 @@ module _ (g : Geometry) (s : ℕ) (z : s < 64) where
       open-found-step x a l n = by-check P _ _ _ (λ _ _. stay) λ _. by-check P _ _ _ (λ _ _. stay) λ _. by-check P _ _ _ (λ _ _. stay) λ q _.
           let e = freeChain g d x in
           let e1 = putFlag e x 0x43 in
-          let (w, some) = freed-table d x (not-false (clean g d x) q) a in
+          let (w, some) = freed-table g d x (not-false (clean g d x) q) a in
           let k = lowest (e 360) in
           step-join g s [] (k ∷ []) d e1 (give g e1 x 0 k) (step-join g s [] [] d e e1 (freed d x) (flagged e x 0x43 l n)) (step-first g s e1 x k z l n (lowest-free (e 360) w some .1))
 
