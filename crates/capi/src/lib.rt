@@ -4,6 +4,7 @@ use layout::Name;
 use layout::status::SUCCESS;
 use names::name_byte;
 use names::read_name;
+use recovery::recover;
 use sectors::command::sector_call;
 use sectors::show::shown_length;
 use sectors::show::shown_start;
@@ -20,9 +21,20 @@ ghost use lib.ListN.{length};
 ghost use Rattle.layout.specs.Basics.{valuesFrom};
 ghost use Rattle.layout.specs.Image.{single, imageOf};
 ghost use Rattle.layout.specs.Names.{nameByte};
+ghost use Rattle.rules.specs.Recovery.{recoverCall};
 ghost use Rattle.rules.specs.Sectors.{sectorCall};
 ghost use Rattle.words.specs.Result.{packed};
 ghost use Rattle.capi.specs.Leaves.{getLeaves, putLeaves, shownResult, nameLeaves};
+
+// Recovery of the deleted file of a slot.
+#[no_mangle]
+pub extern "C" fn dos_recover(image: &mut [u8], slot: u8) -> u64
+    ensures { λ r. ⌜ (let o = recoverCall single (now (image .entry)) slot in
+        (r ≡ packed (o .reply .status) (o .reply .count)) × (now (image .exit) ≡ imageOf single (length (now (image .entry))) (o .disk))) ⌝ }
+{
+    let a = recover(image, slot as u16);
+    pack(a.status, a.count)
+}
 
 // A sector read or written.
 #[no_mangle]
