@@ -41,7 +41,7 @@ module _ (g : Geometry) where
   unfolding putLink
   link-other d k s n x h = put-other (put d k _ _) k _ _ x h ∙ put-other d k _ _ x h
 
-  used-other : (d : Disk) (k n x : ℕ) → x ≢ k → putUsed g d k n x ≡ d x
+  pub used-other : (d : Disk) (k n x : ℕ) → x ≢ k → putUsed g d k n x ≡ d x
   unfolding putUsed
   used-other d k n x h = put-other d k _ n x h
 
@@ -54,12 +54,12 @@ module _ (g : Geometry) where
       go false = link-other (putCount d s (count d s + 1)) p s k 360 (λ e. h (sym e)) ∙ count-table d s (count d s + 1)
 
   -- a sector given out: the table is marked, and the sector is empty
-  give-table : (d : Disk) (s p k : ℕ) → p ≢ 360 → k ≢ 360 → give g d s p k 360 ≡ marked d k 360
+  pub give-table : (d : Disk) (s p k : ℕ) → p ≢ 360 → k ≢ 360 → give g d s p k 360 ≡ marked d k 360
   unfolding give emptied
   give-table d s p k h n = used-other (putLink g (linked g (marked d k) s p k) k s 0) k 0 360 (λ e. n (sym e))
       ∙ link-other (linked g (marked d k) s p k) k s 0 360 (λ e. n (sym e)) ∙ linked-table (marked d k) s p k h
 
-  give-empty : (d : Disk) (s p k : ℕ) → used g (give g d s p k k) ≡ 0
+  pub give-empty : (d : Disk) (s p k : ℕ) → used g (give g d s p k k) ≡ 0
   unfolding give emptied
   give-empty d s p k = used-put g (putLink g (linked g (marked d k) s p k) k s 0) k 0
 
