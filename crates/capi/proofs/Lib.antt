@@ -1,6 +1,7 @@
-mod Counts
+mod GetCount
+mod PutCount
 mod Within
+mod Few
 mod Laws
 mod Filling
 mod Shown
-mod Exact

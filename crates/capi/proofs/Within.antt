@@ -1,12 +1,11 @@
--- A CIO call changes at most the channel that it names, and counts at most the bytes lent.
+-- A CIO call changes at most the channel that it names, and its count is small.
 use mathlib.Core.Logic.{_≢_}
 use mathlib.Core.Bool.{Bool}
 use mathlib.Core.List.{List}
-use mathlib.Core.Path.{_≡_, refl, ap}
-use Prim.Native.Nat.{ℕ, _≤_}
+use mathlib.Core.Path.{_≡_, refl}
+use Prim.Native.Nat.{ℕ, suc, _*_, _≤_, _<_}
+use native.Mathlib.Nat.{mul-le-mul-left}
 use native.Mathlib.Omega.{arith}
-use lib.ListN.{length}
-use borrow.Author.Tests.{le-leb}
 use Rattle.layout.specs.declared.State.{State}
 use Rattle.layout.specs.declared.State.the-variants.{Closed, Reading, Writing}
 use Rattle.layout.specs.declared.Table.{Table}
@@ -19,22 +18,25 @@ use Rattle.layout.specs.Image.{Disk, Geometry, view}
 use Rattle.layout.specs.Volume.{bitOn, bitOff}
 use Rattle.layout.specs.Channels.{stateOf, withState}
 use Rattle.layout.proofs.Channels.{state-other}
-use Rattle.layout.proofs.Check.{check-yes, by-check, by-named, by-found}
+use Rattle.layout.proofs.Check.{by-check, by-named, by-found}
 use Rattle.rules.specs.declared.Block.{Block}
 use Rattle.rules.specs.Commands.{Effect, refused, refuse, putAt, openRead, openFound, openNew, openWrite, openCall, closeState, closeCall, statusCall, renameCall, deleteCall, flagCall, lockCall, unlockCall, formatCall}
-use Rattle.capi.proofs.Counts.{get-most, put-most}
+use Rattle.words.proofs.Records.{leftOf}
+use Rattle.capi.proofs.GetCount.{get-most}
+use Rattle.capi.proofs.PutCount.{put-most}
 use Rattle.rules.specs.Cio.{Outcome, getAt, command, cio, cioCall}
 
-module _ (g : Geometry) (d : Disk) (t : Table) (c : Block) (text b : List ℕ) where
+-- a geometry with room, and a channel whose sectors yet to enter are a u16
+module _ (g : Geometry) (some : 0 < g .room) (d : Disk) (t : Table) (c : Block) (text b : List ℕ) (left : leftOf (stateOf t (c .channel)) < 65536) where
   pub record Within (e : Effect) : Type 0 where
     pub others : (i : ℕ) → i ≢ c .channel → stateOf (e .table) i ≡ stateOf t i
-    pub most : e .count ≤ length b
+    pub most : e .count ≤ g .room * 65536
 
   -- with the table as it was, or with another state of that channel
   kept : (status : ℕ) (e : Disk) → Within (refused status e t)
   kept status e = record { others = λ i n. refl; most = omega arith }
 
-  moved : (e : Effect) (st : State) → e .table ≡ withState t (c .channel) st → e .count ≤ length b → Within e
+  moved : (e : Effect) (st : State) → e .table ≡ withState t (c .channel) st → e .count ≤ g .room * 65536 → Within e
   moved e st p h = record { others = λ i n. rw p (state-other t (c .channel) st i n); most = h }
 
   -- a row that refuses; a name and a slot that are refused or not
@@ -94,7 +96,7 @@ module _ (g : Geometry) (d : Disk) (t : Table) (c : Block) (text b : List ℕ) w
 
   within-put : Within (putAt g d t (c .channel) b)
   unfolding putAt
-  within-put = moved _ _ refl (put-most g d (stateOf t (c .channel)) b)
+  within-put = moved _ _ refl (let h = put-most g d (stateOf t (c .channel)) b some in let m = mul-le-mul-left {m = 721} {n = 65536} (g .room) (omega arith) in omega arith)
 
   within-command : Within (command g d t c text b)
   unfolding command lockCall unlockCall
@@ -112,18 +114,14 @@ module _ (g : Geometry) (d : Disk) (t : Table) (c : Block) (text b : List ℕ) w
 
   within-cio : Within (cio g d t c text b .effect)
   unfolding cio getAt
-  within-cio = by-check whole _ _ _ (kept _ _) (by-check whole _ _ _ (moved _ _ refl (get-most g d (stateOf t (c .channel)) b)) within-command)
+  within-cio = by-check whole _ _ _ (kept _ _) (by-check whole _ _ _ (moved _ _ refl (let h = get-most g d (stateOf t (c .channel)) b in let m = mul-le-mul-left {m = suc (leftOf (stateOf t (c .channel)))} {n = 65536} (g .room) (omega arith) in omega arith)) within-command)
     where
       whole : Outcome → Type 0
       whole o = Within (o .effect)
 
 -- on an image of any length
-module _ (g : Geometry) (l : List ℕ) (t : Table) (c : Block) (text b : List ℕ) where
-  pub cio-within : Within g (view g l) t c text b (cioCall g l t c text b .effect)
-  unfolding cioCall
-  cio-within = by-check (λ (o : Outcome). Within g (view g l) t c text b (o .effect)) _ _ _ (kept g (view g l) t c text b _ _) (within-cio g (view g l) t c text b)
-
-  -- a channel above 7 is refused
-  pub none-changes : 8 ≤ c .channel → cioCall g l t c text b .effect .table ≡ t
-  unfolding cioCall cio
-  none-changes h = by-check (λ (o : Outcome). o .effect .table ≡ t) _ _ _ refl (ap (λ (o : Outcome). o .effect .table) (check-yes _ _ _ (le-leb 8 (c .channel) h)))
+pub cio-within : (g : Geometry) (some : 0 < g .room) (l : List ℕ) (t : Table) (c : Block) (text b : List ℕ) (left : leftOf (stateOf t (c .channel)) < 65536)
+    → Within g some (view g l) t c text b left (cioCall g l t c text b .effect)
+unfolding cioCall
+cio-within g some l t c text b left =
+    by-check (λ (o : Outcome). Within g some (view g l) t c text b left (o .effect)) _ _ _ (kept g some (view g l) t c text b left _ _) (within-cio g some (view g l) t c text b left)

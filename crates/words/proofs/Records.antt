@@ -2,7 +2,7 @@
 use mathlib.Core.Bool.{Bool, true, false, _&&_}
 use mathlib.Core.List.{List, [], _∷_}
 use mathlib.Core.Path.{_≡_, refl, sym, _∙_}
-use Prim.Native.Nat.{ℕ}
+use Prim.Native.Nat.{ℕ, _≤_}
 use native.Mathlib.Omega.{arith}
 use lib.Dec.{eqb}
 use lib.ListN.{length, getD, set}
@@ -10,7 +10,7 @@ use lib.Seq.{ext-getD}
 use borrow.Author.Tests.{eqb-true, eq-eqb}
 use Rattle.layout.specs.declared.State.{State}
 use Rattle.layout.specs.declared.State.the-variants.{Closed, Reading, Writing}
-use Rattle.layout.specs.Basics.{allBelow}
+use Rattle.layout.specs.Basics.{if, allBelow}
 use Rattle.layout.proofs.Logic.{and-left}
 use Rattle.layout.proofs.Search.{all-at, all-of}
 use Rattle.words.specs.Words.{inForce, isRecord, stateIn, wordsOf, sameWord, sameState, recordAfter}
@@ -106,3 +106,19 @@ module _ (ws : List ℕ) (st : State) where
 pub record-length : (ws : List ℕ) → isRecord ws ≡ true → length ws ≡ 5
 unfolding isRecord
 record-length ws e = eqb-true (length ws) 5 (and-left (eqb (length ws) 5) (inForce (getD ws 0 0)) e)
+
+-- the sectors yet to enter of a state
+abbrev pub leftOf : State → ℕ
+leftOf Closed = 0
+leftOf (Reading s k o l) = l
+leftOf (Writing s p) = 0
+
+-- of a record they are its last word, or none
+pub left-word : (ws : List ℕ) → leftOf (stateIn ws) ≤ getD ws 4 0
+unfolding stateIn
+left-word ws = go (eqb (getD ws 0 0) 1) (eqb (getD ws 0 0) 2)
+  where
+    go : (a b : Bool) → leftOf (if a (Reading (getD ws 1 0) (getD ws 2 0) (getD ws 3 0) (getD ws 4 0)) (if b (Writing (getD ws 1 0) (getD ws 2 0)) Closed)) ≤ getD ws 4 0
+    go true b = omega arith
+    go false true = omega arith
+    go false false = omega arith

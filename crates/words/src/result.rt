@@ -1,5 +1,6 @@
 // A call's result in one u64.
 ghost use mathlib.Core.Path.{_≡_};
+ghost use Prim.Native.Nat.{_<_, _^_};
 ghost use Rattle.words.specs.Result.{packed};
 
 // What a malformed table or record answers.
@@ -7,7 +8,8 @@ pub const MALFORMED: u64 = 255;
 
 // Status and count as one number.
 pub fn pack(status: u8, count: usize) -> u64
+    requires { ⌜ count < 2 ^ 56 ⌝ }
     ensures { λ r. ⌜ r ≡ packed status count ⌝ }
 {
-    status as u64 + 256 * (count % 0x100000000000000) as u64
+    status as u64 + 256 * count as u64
 }

@@ -7,7 +7,6 @@ use Rattle.layout.specs.Image.{single}
 use Rattle.rules.specs.Showing.{shows, shownStart, shownLength}
 use Rattle.capi.proofs.Shown.{shown-small}
 use Rattle.capi.specs.Leaves.{shownResult}
-use Rattle.words.specs.Result.{packed}
 use Rattle.capi.proofs.dos_show.Statement.{statement}
 use Rattle.capi.proofs.dos_show.Tie as tie
 
@@ -15,7 +14,7 @@ shows-requires : tie.Need-shows-requires
 shows-requires c κs = search needs
 
 returns : tie.Need-returns
-unfolding shownResult shownStart shownLength packed
+unfolding shownResult shownStart shownLength
 returns c =
     let args = c .before .before .before .args in
     let e : shows single (args .image .now) (args .slot) (args .sector) ≡ false = sym (c .before .shows .ensures) ∙ not-true _ (c .if1 .taken) in rw e
@@ -37,7 +36,9 @@ add-pack c =
     let h = shown-small (args .image .now) (args .slot) (args .sector) in let e = c .before .shown-start .ensures in let f = c .shown-length .ensures in omega arith
 
 pack-requires : tie.Need-pack-requires
-pack-requires c κs = search needs
+pack-requires c κs =
+    let args = c .before .before .before .before .before .args in
+    let h = shown-small (args .image .now) (args .slot) (args .sector) in let e = c .before .shown-start .ensures in let f = c .shown-length .ensures in omega arith
 
 returns-2 : tie.Need-returns-2
 unfolding shownResult

@@ -4,7 +4,7 @@ use borrow.Author.Tests.{not-false}
 use borrow.Author.Needs.{needs}
 use Rattle.layout.proofs.Check.{check-yes}
 use Rattle.layout.specs.Channels.{channel}
-use Rattle.capi.proofs.Laws.{get-leaves}
+use Rattle.capi.proofs.Laws.{get-few, get-leaves}
 use Rattle.capi.specs.Leaves.{GetLeaves, getLeaves}
 use Rattle.words.proofs.Records.{record-length}
 use Rattle.capi.proofs.dos_thin_get.Statement.{statement}
@@ -30,7 +30,7 @@ leave-state-requires : tie.Need-leave-state-requires
 leave-state-requires c κs = record-length _ (sym (c .before .before .before .before .before .before .before .before .before .is-record .ensures) ∙ not-false _ (c .before .before .before .before .before .before .before .before .if1 .left))
 
 pack-requires : tie.Need-pack-requires
-pack-requires c κs = search needs
+pack-requires c κs = get-few _ _ _ _ (sym (c .before .before .before .before .before .before .before .before .before .before .before .before .is-record .ensures) ∙ not-false _ (c .before .before .before .before .before .before .before .before .before .before .before .if1 .left)) (ap channel (c .before .before .before .before .before .before .before .before .before .state-in .ensures)) _ (c .before .before .before .before .before .before .before .read-on .ensures .0) (λ i. c .before .before .before .before .before .before .before .before .before .before .before .before .before .before .before .slice-known .given i .fits)
 
 same-length-2 : tie.Need-same-length-2
 same-length-2 c = search needs
