@@ -11,7 +11,7 @@ use borrow.Author.Tests.{eqb-true, eq-eqb}
 use Rattle.layout.specs.declared.State.{State}
 use Rattle.layout.specs.declared.State.the-variants.{Closed, Reading, Writing}
 use Rattle.layout.specs.Basics.{if, allBelow}
-use Rattle.layout.proofs.Logic.{and-left}
+use Rattle.layout.proofs.Logic.{and-left, and-right, and-both}
 use Rattle.layout.proofs.Search.{all-at, all-of}
 use Rattle.words.specs.Words.{inForce, isRecord, stateIn, wordsOf, sameWord, sameState, recordAfter}
 
@@ -106,6 +106,13 @@ module _ (ws : List ℕ) (st : State) where
 pub record-length : (ws : List ℕ) → isRecord ws ≡ true → length ws ≡ 5
 unfolding isRecord
 record-length ws e = eqb-true (length ws) 5 (and-left (eqb (length ws) 5) (inForce (getD ws 0 0)) e)
+
+-- after a call it is a record again
+pub record-again : (ws : List ℕ) (st : State) → isRecord ws ≡ true → isRecord (recordAfter ws st) ≡ true
+unfolding isRecord
+record-again ws st e =
+    and-both (eqb (length (recordAfter ws st)) 5) (inForce (getD (recordAfter ws st) 0 0)) (eq-eqb (length (recordAfter ws st)) 5 (record-five ws st (record-length ws e)))
+    (kind-after ws st (and-right (eqb (length ws) 5) (inForce (getD ws 0 0)) e))
 
 -- the sectors yet to enter of a state
 abbrev pub leftOf : State → ℕ

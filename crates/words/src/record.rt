@@ -51,7 +51,7 @@ pub fn state_in(words: &[u16]) -> State
 }
 
 // The five words of a state.
-pub fn words_of(st: State) -> [u16; 5]
+fn words_of(st: State) -> [u16; 5]
     ensures { λ r. ⌜ r ≡ wordsOf st ⌝ }
 {
     match st {
