@@ -1,10 +1,12 @@
 // The library as C calls it: every function here is exported under its own name. A slice arrives as a pointer and a length.
+use calls::cio::cio;
 use layout::Channel;
 use layout::Name;
 use layout::status::SUCCESS;
 use names::name_byte;
 use names::read_name;
 use recovery::recover;
+use rules::Block;
 use sectors::command::sector_call;
 use sectors::show::shown_length;
 use sectors::show::shown_start;
@@ -16,6 +18,9 @@ use words::record::leave_state;
 use words::record::state_in;
 use words::result::MALFORMED;
 use words::result::pack;
+use words::table::is_table;
+use words::table::leave_table;
+use words::table::table_of;
 ghost use mathlib.Core.Path.{_≡_};
 ghost use lib.ListN.{length};
 ghost use Rattle.layout.specs.Basics.{valuesFrom};
@@ -24,7 +29,35 @@ ghost use Rattle.layout.specs.Names.{nameByte};
 ghost use Rattle.rules.specs.Recovery.{recoverCall};
 ghost use Rattle.rules.specs.Sectors.{sectorCall};
 ghost use Rattle.words.specs.Result.{packed};
-ghost use Rattle.capi.specs.Leaves.{getLeaves, putLeaves, shownResult, nameLeaves};
+ghost use Rattle.capi.specs.Leaves.{block, cioLeaves, getLeaves, putLeaves, shownResult, nameLeaves};
+
+// A CIO call on a table of forty words.
+#[no_mangle]
+pub extern "C" fn dos_cio(
+    image: &mut [u8],
+    table: &mut [u16],
+    channel: u8,
+    command: u8,
+    direction: u8,
+    name: &[u8],
+    buffer: &mut [u8],
+) -> u64
+    ensures { λ r. ⌜ (let o = cioLeaves (now (image .entry)) (now (table .entry)) (block channel command direction) (now (name .entry)) (now (buffer .entry)) in
+        (r ≡ o .result) × (now (image .exit) ≡ o .image) × (now (table .exit) ≡ o .table) × (now (buffer .exit) ≡ o .buffer)) ⌝ }
+{
+    if !is_table(table) {
+        return MALFORMED;
+    }
+    let c = Block {
+        channel,
+        command,
+        direction,
+    };
+    let a = cio(image, table_of(table), c, name, buffer);
+    let after = a.table;
+    leave_table(table, channel, after);
+    pack(a.status, a.count)
+}
 
 // Recovery of the deleted file of a slot.
 #[no_mangle]
