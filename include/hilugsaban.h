@@ -1,0 +1,248 @@
+/*
+ * hilugsaban.h: Atari DOS 2 disk images in memory.
+ *
+ * The calls of libcapi.a, which `rt staticlib capi` proves and writes to
+ * target/staticlib/. Link the archive behind the sources that use it:
+ *
+ *     cc -Iinclude program.c target/staticlib/libcapi.a
+ *
+ * The library allocates nothing, keeps nothing between two calls and does no
+ * input or output. All that a call reads or changes is lent to it:
+ *
+ *   image    the disk: 92,160 bytes, sectors 1 to 720 of 128 bytes in order,
+ *            with no header. Any other length is refused with 203.
+ *   table    the eight channels: 40 words, see "The channel table".
+ *   channel  one channel by itself (thin calls): its five words.
+ *   name     a file name with its device and its ending byte, see "Names".
+ *   buffer   the bytes to write, or the place for those read.
+ *
+ * Each is a pointer and a length in elements. What is lent must be there for
+ * the whole length; parts lent to one call must not overlap; words must be
+ * aligned as uint16_t is. With length 0 the pointer is not followed and may be
+ * NULL. No call asks for more than that: every content of image, table, name
+ * and buffer is legal and has a defined answer. A refused call changes nothing,
+ * except where its comment says so.
+ */
+#ifndef HILUGSABAN_H
+#define HILUGSABAN_H
+
+#include <stddef.h>
+#include <stdint.h>
+
+#ifdef __cplusplus
+extern "C" {
+#endif
+
+/* Sizes. */
+enum {
+    DOS_IMAGE_BYTES = 92160,  /* a disk image */
+    DOS_SECTOR_BYTES = 128,   /* a sector, and the buffer of dos_sector */
+    DOS_SECTORS = 720,        /* sectors count from 1 */
+    DOS_SLOTS = 64,           /* directory slots count from 0 */
+    DOS_CHANNELS = 8,         /* channels count from 0 */
+    DOS_CHANNEL_WORDS = 5,    /* words of one channel */
+    DOS_TABLE_WORDS = 40,     /* words of the channel table */
+    DOS_NAME_BYTES = 11       /* a name in the directory, blank padded */
+};
+
+/*
+ * The channel table: 40 words, channel c in words 5 * c to 5 * c + 4. A table of
+ * zeros has all eight channels closed.
+ *
+ *   word          closed  reading                        writing
+ *   +0  kind      0       1                              2
+ *   +1  slot      -       the file's directory slot      the file's directory slot
+ *   +2  sector    -       last sector entered,           the file's last sector
+ *                         0 before the first
+ *   +3  offset    -       bytes of it handed out         -
+ *   +4  left      -       sectors yet to enter           -
+ *
+ * A word marked - is not looked at. A channel that a call does not change keeps
+ * all its five words; one that it changes has 0 in the words marked -, so a
+ * channel that it closes is five zeros. Another kind in any of the eight
+ * channels, or another length than 40, is refused with 255. A caller may keep,
+ * copy or change the words between two calls: every get and put tests its
+ * channel against the disk again.
+ */
+enum {
+    DOS_WORD_KIND = 0,
+    DOS_WORD_SLOT = 1,
+    DOS_WORD_SECTOR = 2,
+    DOS_WORD_OFFSET = 3,
+    DOS_WORD_LEFT = 4
+};
+enum {
+    DOS_KIND_CLOSED = 0,
+    DOS_KIND_READING = 1,
+    DOS_KIND_WRITING = 2
+};
+
+/* Commands of dos_cio. */
+enum {
+    DOS_OPEN = 3,      /* name; direction DOS_READ or DOS_WRITE; closed channel */
+    DOS_GET = 7,       /* fills the buffer; reading channel */
+    DOS_PUT = 11,      /* adds the buffer to the file's end; writing channel */
+    DOS_CLOSE = 12,    /* any channel */
+    DOS_STATUS = 13,   /* name; 1, 167 or 170; closed channel */
+    DOS_RENAME = 32,   /* name `D:OLD,NEW`; closed channel */
+    DOS_DELETE = 33,   /* name; closed channel */
+    DOS_LOCK = 35,     /* name; closed channel */
+    DOS_UNLOCK = 36,   /* name; closed channel */
+    DOS_FORMAT = 254   /* name `D:` alone; closed channel */
+};
+
+/* Directions of DOS_OPEN. Other commands do not look at the direction. */
+enum {
+    DOS_READ = 4,   /* a standing file, from its first byte */
+    DOS_WRITE = 8   /* a new file, or a standing one emptied */
+};
+
+/* Device, unit and commands of dos_sector. */
+enum {
+    DOS_SECTOR_DEVICE = 0x31,
+    DOS_SECTOR_UNIT = 1,
+    DOS_SECTOR_READ = 0x52,
+    DOS_SECTOR_PUT = 0x50,    /* write */
+    DOS_SECTOR_WRITE = 0x57   /* write, with the same effect here */
+};
+
+/*
+ * Status numbers. The comment says when a call gives each. Where several apply,
+ * dos_cio answers the first in this order: 255, 203, 134, 132 or 168 (command),
+ * 129, 161, 133, 131 or 135, 168 (direction), 130, 160, 165, 163, 170, 167, 200,
+ * 164, 201, 169, 162.
+ */
+enum {
+    DOS_SUCCESS = 1,           /* done */
+    DOS_CHANNEL_OPEN = 129,    /* the command needs a closed channel, this one is open */
+    DOS_BAD_DEVICE = 130,      /* the name does not begin with `D:` or `D` digit `:` */
+    DOS_WRITE_ONLY = 131,      /* get on a writing channel */
+    DOS_BAD_COMMAND = 132,     /* command 0 to 2 */
+    DOS_CHANNEL_CLOSED = 133,  /* get or put on a closed channel */
+    DOS_BAD_CHANNEL = 134,     /* channel above 7 */
+    DOS_READ_ONLY = 135,       /* put on a reading channel */
+    DOS_END_OF_FILE = 136,     /* the file ended before the buffer was full; count bytes came */
+    DOS_NO_DEVICE = 138,       /* sector call: device not $31 or unit not 1 */
+    DOS_BAD_REQUEST = 139,     /* sector call: another command, or sector not 1 to 720 */
+    DOS_BAD_UNIT = 160,        /* the name's device digit is not 1 */
+    DOS_NO_CHANNEL = 161,      /* open with all eight channels open */
+    DOS_DISK_FULL = 162,       /* no free sector; of a put, count bytes were written */
+    DOS_BAD_TABLE = 163,       /* the disk's volume table is not good */
+    DOS_BAD_CHAIN = 164,       /* the file's sectors or its channel do not fit together;
+                                  of a get, count bytes came */
+    DOS_BAD_NAME = 165,        /* the name is malformed or has no ending byte */
+    DOS_FILE_LOCKED = 167,     /* the file is locked */
+    DOS_NOT_SERVED = 168,      /* a command or an open direction that is not served */
+    DOS_NO_SLOT = 169,         /* the directory is full */
+    DOS_NOT_FOUND = 170,       /* no standing file has the name; recovery: no deleted slot */
+    DOS_FILE_HELD = 200,       /* the file is held by a channel or marked open for output;
+                                  format: a channel is open */
+    DOS_NAME_TAKEN = 201,      /* another standing file has the name (rename, recovery) */
+    DOS_LOST_CHAIN = 202,      /* recovery: the deleted file's sectors are not all its own any more */
+    DOS_BAD_IMAGE = 203,       /* the image is not 92,160 bytes long */
+    DOS_BAD_LENGTH = 204,      /* sector call: the buffer is not 128 bytes long */
+    DOS_BAD_ARGUMENT = 255     /* a table, channel or eleven of another length, or a channel
+                                  of another kind; this test comes first */
+};
+
+/*
+ * Names. `D:` or `D1:`, then a letter and up to seven letters or digits, then
+ * optionally a point and up to three letters or digits; capitals only. The
+ * ending byte, 0 or $9B, is part of the length; bytes behind it are not looked
+ * at. Rename takes `D:OLD,NEW`, the second name with no device.
+ */
+
+/*
+ * A CIO command on one channel. The answer is status + 256 * count.
+ *
+ * count is the number of bytes that a get delivered or a put wrote, and 0 for
+ * every other command. Name and buffer are looked at only by the commands that
+ * use them. Only a get changes the buffer. Three refusals change something: a
+ * get with 136 or 164 has delivered count bytes, moved its channel behind them
+ * and left the rest of the buffer; a put with 162 has written the count bytes
+ * that fitted; a close with 164 has closed its channel.
+ */
+uint64_t dos_cio(uint8_t *image, size_t image_length,
+                 uint16_t *table, size_t table_length,
+                 uint8_t channel, uint8_t command, uint8_t direction,
+                 const uint8_t *name, size_t name_length,
+                 uint8_t *buffer, size_t buffer_length);
+
+/*
+ * Takes the deleted file in a directory slot back. The answer is status +
+ * 256 * count, count being the number of sectors taken back. Refusals in order:
+ * 203, 170, 163, 165, 201, 202. Recovery knows no channels.
+ */
+uint64_t dos_recover(uint8_t *image, size_t image_length, uint8_t slot);
+
+/*
+ * Reads a sector into the buffer or writes the buffer to it. The answer is
+ * status + 256 * count, count being 128 on success. Refusals in order: 203,
+ * 138, 139, 204. A write is not held to any rule of the file system.
+ */
+uint64_t dos_sector(uint8_t *image, size_t image_length,
+                    uint8_t device, uint8_t unit, uint8_t command, uint16_t sector,
+                    uint8_t *buffer, size_t buffer_length);
+
+/*
+ * Where the data of one file sector stand in the image: a yes when a get for
+ * that slot could enter the sector, else a no. Take the answer apart with
+ * dos_shown, dos_shown_offset and dos_shown_length: 1 for a yes and 0 for a no
+ * in the low eight bits, above them offset * 1024 + length. A no has both 0.
+ */
+uint64_t dos_show(const uint8_t *image, size_t image_length, uint8_t slot, uint16_t sector);
+
+/*
+ * Thin calls: get and put on one channel that is not in a table. channel has
+ * five words. The answer is as for DOS_GET and DOS_PUT of dos_cio; 255 where
+ * the length is not 5 or the kind is none, then 203, 133, 131 or 135, and so on.
+ */
+uint64_t dos_thin_get(const uint8_t *image, size_t image_length,
+                      uint16_t *channel, size_t channel_length,
+                      uint8_t *buffer, size_t buffer_length);
+uint64_t dos_thin_put(uint8_t *image, size_t image_length,
+                      uint16_t *channel, size_t channel_length,
+                      const uint8_t *buffer, size_t buffer_length);
+
+/*
+ * Takes a name apart: 1, and its eleven blank-padded bytes in eleven; or 130,
+ * 160 or 165, and eleven as it was. 255 where eleven_length is not 11.
+ */
+uint64_t dos_name(const uint8_t *name, size_t name_length,
+                  uint8_t *eleven, size_t eleven_length);
+
+/* The status of an answer. */
+static inline uint8_t dos_answer_status(uint64_t answer)
+{
+    return (uint8_t)(answer & 255);
+}
+
+/* The count of an answer. */
+static inline size_t dos_answer_count(uint64_t answer)
+{
+    return (size_t)(answer >> 8);
+}
+
+/* Whether dos_show answered yes. */
+static inline int dos_shown(uint64_t answer)
+{
+    return (answer & 255) == 1;
+}
+
+/* The place in the image of the part that dos_show found. */
+static inline size_t dos_shown_offset(uint64_t answer)
+{
+    return (size_t)(answer >> 18);
+}
+
+/* The length of that part. */
+static inline size_t dos_shown_length(uint64_t answer)
+{
+    return (size_t)(answer >> 8 & 1023);
+}
+
+#ifdef __cplusplus
+}
+#endif
+
+#endif

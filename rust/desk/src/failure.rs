@@ -1,0 +1,67 @@
+//! Why a command failed, in one line.
+
+use hilugsaban::{Incomplete, Status};
+use std::{fmt::Display, io};
+
+/// A message for the person at the terminal.
+#[derive(Debug)]
+pub struct Failure(String);
+
+impl Failure {
+    pub fn new(message: impl Into<String>) -> Failure {
+        Failure(message.into())
+    }
+
+    /// Prints the message, if there is one.
+    pub fn report(&self) {
+        if !self.0.is_empty() {
+            eprintln!("desk: {self}");
+        }
+    }
+}
+
+impl Display for Failure {
+    fn fmt(&self, f: &mut std::fmt::Formatter<'_>) -> std::fmt::Result {
+        f.write_str(&self.0)
+    }
+}
+
+/// An error of the output. One that nobody reads any more needs no message.
+impl From<io::Error> for Failure {
+    fn from(error: io::Error) -> Failure {
+        match error.kind() {
+            io::ErrorKind::BrokenPipe => Failure::new(""),
+            _ => Failure::new(format!("output: {error}")),
+        }
+    }
+}
+
+/// A status with its number, as every message shows it.
+pub fn numbered(status: Status) -> String {
+    format!("{} {status}", status.number())
+}
+
+/// Says what an error is about.
+pub trait About<T> {
+    fn about(self, what: impl Display) -> Result<T, Failure>;
+}
+
+impl<T> About<T> for Result<T, Status> {
+    fn about(self, what: impl Display) -> Result<T, Failure> {
+        self.map_err(|status| Failure(format!("{what}: {}", numbered(status))))
+    }
+}
+
+impl<T> About<T> for Result<T, Incomplete> {
+    fn about(self, what: impl Display) -> Result<T, Failure> {
+        self.map_err(|Incomplete { status, count }| {
+            Failure(format!("{what}: {}, after {count} bytes", numbered(status)))
+        })
+    }
+}
+
+impl<T> About<T> for io::Result<T> {
+    fn about(self, what: impl Display) -> Result<T, Failure> {
+        self.map_err(|error| Failure(format!("{what}: {error}")))
+    }
+}

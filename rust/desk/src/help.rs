@@ -1,0 +1,165 @@
+//! The commands with their help.
+
+use crate::{commands, demo, failure::Failure, shell};
+use std::{
+    ffi::{OsStr, OsString},
+    io::Write,
+};
+
+/// A command of the program.
+pub struct Command {
+    pub name: &'static str,
+    pub arguments: &'static str,
+    /// Fewest and most arguments.
+    pub least: usize,
+    pub most: usize,
+    pub summary: &'static str,
+    pub details: &'static str,
+    pub run: fn(&[OsString], &mut dyn Write) -> Result<(), Failure>,
+}
+
+impl Command {
+    /// What `desk NAME --help` prints.
+    pub fn help(&self) -> String {
+        format!(
+            "usage: desk {} {}\n\n{}.\n{}",
+            self.name, self.arguments, self.summary, self.details
+        )
+    }
+}
+
+pub fn find(name: &OsStr) -> Option<&'static Command> {
+    COMMANDS.iter().find(|command| name == command.name)
+}
+
+/// What `desk --help` prints.
+pub fn overview() -> String {
+    let mut text = String::from(
+        "desk works on files of Atari DOS 2 disk images: 92,160 bytes, single density, no header.\n\nusage:\n",
+    );
+    for command in COMMANDS {
+        let usage = format!("{} {}", command.name, command.arguments);
+        text += &format!("  desk {usage:<28} {}\n", command.summary);
+    }
+    text += "
+desk COMMAND --help says more about one of them. Names on a disk are like ENDS.DAT, capitals only.
+A refusal is printed with its status number. The exit status is 0, or 1 where anything failed;
+an image is written back only when everything succeeded.
+";
+    text
+}
+
+const COMMANDS: &[Command] = &[
+    Command {
+        name: "new",
+        arguments: "IMAGE",
+        least: 1,
+        most: 1,
+        summary: "Make a fresh image",
+        details: "It has no files and 707 free sectors. The file must not exist yet.\n",
+        run: commands::new,
+    },
+    Command {
+        name: "list",
+        arguments: "IMAGE",
+        least: 1,
+        most: 1,
+        summary: "List the files of an image",
+        details: "Each with its slot in the directory, sectors and bytes; whether it is locked, open for output or\n\
+                  damaged; for a deleted file, whether it can still be recovered, or the status that refuses it.\n",
+        run: commands::list,
+    },
+    Command {
+        name: "get",
+        arguments: "IMAGE NAME [FILE]",
+        least: 2,
+        most: 3,
+        summary: "Copy a file out of an image",
+        details: "FILE is NAME in the current folder if none is given, and must not exist then; - is standard output.\n\
+                  Nothing is written if the file cannot be read to its end.\n",
+        run: commands::get,
+    },
+    Command {
+        name: "put",
+        arguments: "IMAGE FILE [NAME]",
+        least: 2,
+        most: 3,
+        summary: "Copy a file into an image",
+        details: "NAME is the file's own name in capitals if none is given. FILE - is standard input.\n\
+                  A file of that name on the disk is replaced.\n",
+        run: commands::put,
+    },
+    Command {
+        name: "delete",
+        arguments: "IMAGE NAME...",
+        least: 2,
+        most: usize::MAX,
+        summary: "Delete files",
+        details: "All of them, or none if one is refused. See desk recover.\n",
+        run: commands::delete,
+    },
+    Command {
+        name: "recover",
+        arguments: "IMAGE SLOT|NAME",
+        least: 2,
+        most: 2,
+        summary: "Take a deleted file back",
+        details: "By its slot in the directory (see desk list) or by its name. It is refused unless every sector of\n\
+                  the file is still free and still its own.\n",
+        run: commands::recover,
+    },
+    Command {
+        name: "rename",
+        arguments: "IMAGE OLD NEW",
+        least: 3,
+        most: 3,
+        summary: "Rename a file",
+        details: "",
+        run: commands::rename,
+    },
+    Command {
+        name: "lock",
+        arguments: "IMAGE NAME...",
+        least: 2,
+        most: usize::MAX,
+        summary: "Lock files against writing, renaming and deleting",
+        details: "All of them, or none if one is refused.\n",
+        run: commands::lock,
+    },
+    Command {
+        name: "unlock",
+        arguments: "IMAGE NAME...",
+        least: 2,
+        most: usize::MAX,
+        summary: "Unlock files",
+        details: "All of them, or none if one is refused.\n",
+        run: commands::unlock,
+    },
+    Command {
+        name: "sector",
+        arguments: "IMAGE N",
+        least: 2,
+        most: 2,
+        summary: "Print the bytes of a sector",
+        details: "N is 1 to 720, also in hexadecimal ($168 or 0x168).\n",
+        run: commands::sector,
+    },
+    Command {
+        name: "shell",
+        arguments: "[IMAGE]",
+        least: 0,
+        most: 1,
+        summary: "Make calls one by one",
+        details: shell::HELP,
+        run: shell::run,
+    },
+    Command {
+        name: "demo",
+        arguments: "",
+        least: 0,
+        most: 0,
+        summary: "Show a file deleted and recovered, on a disk in memory",
+        details: "",
+        run: demo::run,
+    },
+];

@@ -1,0 +1,92 @@
+//! Works on files of Atari DOS 2 disk images, in the manner of mtools: each command reads an image, makes its calls of the
+//! proved library, and writes the image back when all of them succeeded.
+#![forbid(unsafe_code)]
+
+mod commands;
+mod demo;
+mod directory;
+mod dump;
+mod failure;
+mod help;
+mod image_file;
+mod shell;
+mod syntax;
+
+use std::{
+    env,
+    ffi::OsString,
+    io::{self, Write},
+    process::ExitCode,
+};
+
+use failure::Failure;
+use help::Command;
+
+fn main() -> ExitCode {
+    let arguments: Vec<OsString> = env::args_os().skip(1).collect();
+    let mut out = io::stdout().lock();
+    let outcome = run(&arguments, &mut out).and_then(|()| Ok(out.flush()?));
+    match outcome {
+        Ok(()) => ExitCode::SUCCESS,
+        Err(failure) => {
+            failure.report();
+            ExitCode::FAILURE
+        }
+    }
+}
+
+/// Finds the command and runs it, or prints help.
+fn run(arguments: &[OsString], out: &mut dyn Write) -> Result<(), Failure> {
+    let Some((first, rest)) = arguments.split_first() else {
+        return Err(Failure::new("no command given: see desk --help"));
+    };
+    if is_help(first) || first == "help" {
+        let help = rest
+            .first()
+            .and_then(|name| help::find(name))
+            .map(Command::help);
+        return Ok(write!(out, "{}", help.unwrap_or_else(help::overview))?);
+    }
+    let Some(command) = help::find(first) else {
+        return Err(Failure::new(format!(
+            "no command {}: see desk --help",
+            first.display()
+        )));
+    };
+    match operands(command, rest)? {
+        Some(operands) => (command.run)(&operands, out),
+        None => Ok(write!(out, "{}", command.help())?),
+    }
+}
+
+/// The arguments of a command as many as it takes, or none where help is asked for. Behind -- nothing is an option.
+fn operands(command: &Command, words: &[OsString]) -> Result<Option<Vec<OsString>>, Failure> {
+    let mut operands = Vec::new();
+    let mut words = words.iter();
+    while let Some(word) = words.next() {
+        if is_help(word) {
+            return Ok(None);
+        } else if word == "--" {
+            operands.extend(words.by_ref().cloned());
+        } else if word != "-" && word.as_encoded_bytes().starts_with(b"-") {
+            let name = command.name;
+            return Err(Failure::new(format!(
+                "no option {}: see desk {name} --help",
+                word.display()
+            )));
+        } else {
+            operands.push(word.clone());
+        }
+    }
+    if operands.len() < command.least || operands.len() > command.most {
+        return Err(Failure::new(format!(
+            "usage: desk {} {}",
+            command.name, command.arguments
+        )));
+    }
+    Ok(Some(operands))
+}
+
+fn is_help(word: &OsString) -> bool {
+    word == "--help" || word == "-h"
+}

@@ -1,0 +1,122 @@
+//! A temporary folder with images in it, in which the program is run.
+
+use hilugsaban::{Direction, Disk};
+use std::{
+    fs,
+    io::Write,
+    path::PathBuf,
+    process::{Command, Output, Stdio},
+    sync::atomic::{AtomicU32, Ordering},
+};
+
+/// A folder of its own for a test, removed at the end.
+pub struct Folder(pub PathBuf);
+
+impl Folder {
+    pub fn new() -> Folder {
+        static NEXT: AtomicU32 = AtomicU32::new(0);
+        let number = NEXT.fetch_add(1, Ordering::Relaxed);
+        let path = PathBuf::from(env!("CARGO_TARGET_TMPDIR"))
+            .join(format!("{}-{number}", std::process::id()));
+        fs::create_dir_all(&path).unwrap();
+        Folder(path)
+    }
+
+    /// A folder with the image `disk` on it, changed by some calls.
+    pub fn with_disk(calls: impl FnOnce(&mut Disk<Vec<u8>>)) -> Folder {
+        let folder = Folder::new();
+        let mut disk = Disk::fresh();
+        calls(&mut disk);
+        folder.write("disk", disk.image());
+        folder
+    }
+
+    pub fn write(&self, name: &str, bytes: &[u8]) {
+        fs::write(self.0.join(name), bytes).unwrap();
+    }
+
+    pub fn read(&self, name: &str) -> Vec<u8> {
+        fs::read(self.0.join(name)).unwrap()
+    }
+
+    /// The names of all files in the folder.
+    pub fn names(&self) -> Vec<String> {
+        let entries = fs::read_dir(&self.0).unwrap();
+        let mut names: Vec<String> = entries
+            .map(|entry| entry.unwrap().file_name().into_string().unwrap())
+            .collect();
+        names.sort();
+        names
+    }
+
+    /// Runs the program in the folder with this standard input.
+    pub fn run_with(&self, arguments: &[&str], input: &[u8]) -> Output {
+        let mut child = Command::new(env!("CARGO_BIN_EXE_desk"))
+            .args(arguments)
+            .current_dir(&self.0)
+            .stdin(Stdio::piped())
+            .stdout(Stdio::piped())
+            .stderr(Stdio::piped())
+            .spawn()
+            .unwrap();
+        // A program that refuses its arguments ends without reading.
+        let _ = child.stdin.take().unwrap().write_all(input);
+        child.wait_with_output().unwrap()
+    }
+
+    /// What a command that succeeds prints.
+    pub fn run(&self, arguments: &[&str]) -> String {
+        let output = self.run_with(arguments, b"");
+        assert_eq!(String::from_utf8_lossy(&output.stderr), "", "{arguments:?}");
+        assert_eq!(output.status.code(), Some(0), "{arguments:?}");
+        String::from_utf8(output.stdout).unwrap()
+    }
+
+    /// The message of a command that fails; it leaves every file as it was and adds none.
+    pub fn refuse(&self, arguments: &[&str]) -> String {
+        let before = self.contents();
+        let output = self.run_with(arguments, b"");
+        let after = self.contents();
+        assert!(before == after, "{arguments:?} changed a file");
+        assert_eq!(output.status.code(), Some(1), "{arguments:?}");
+        assert_eq!(String::from_utf8_lossy(&output.stdout), "", "{arguments:?}");
+        String::from_utf8(output.stderr).unwrap()
+    }
+
+    /// What `shell` prints for a script, and its exit status.
+    pub fn shell(&self, arguments: &[&str], script: &str) -> (String, Option<i32>) {
+        let output = self.run_with(&[&["shell"], arguments].concat(), script.as_bytes());
+        (
+            String::from_utf8(output.stdout).unwrap(),
+            output.status.code(),
+        )
+    }
+
+    /// Every file of the folder with its bytes.
+    fn contents(&self) -> Vec<(String, Option<Vec<u8>>)> {
+        let bytes = |name: &String| fs::read(self.0.join(name)).ok();
+        self.names()
+            .into_iter()
+            .map(|name| (name.clone(), bytes(&name)))
+            .collect()
+    }
+}
+
+impl Drop for Folder {
+    fn drop(&mut self) {
+        let _ = fs::remove_dir_all(&self.0);
+    }
+}
+
+/// Makes a file of `length` bytes on a disk.
+pub fn make(disk: &mut Disk<Vec<u8>>, name: &str, length: usize) {
+    disk.open(0, Direction::Write, name).unwrap();
+    assert_eq!(disk.put(0, &vec![b'x'; length]), Ok(length));
+    disk.close(0).unwrap();
+}
+
+/// Two files: A.DAT of one byte, B of 126.
+pub fn two_files(disk: &mut Disk<Vec<u8>>) {
+    make(disk, "A.DAT", 1);
+    make(disk, "B", 126);
+}

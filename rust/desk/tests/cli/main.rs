@@ -1,0 +1,5 @@
+//! The program on files of a temporary folder: every command, its refusals, and what stands in the files afterwards.
+
+mod folder;
+mod images;
+mod shell;

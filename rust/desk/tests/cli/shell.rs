@@ -1,0 +1,195 @@
+//! The shell, with its lines on standard input.
+
+use crate::folder::{two_files, Folder};
+
+#[test]
+fn shell_makes_calls_on_a_disk_in_memory() {
+    let script = r#"
+# a file of three bytes
+open 1 write A
+put 1 "abc"
+close 1
+status A
+open 0 read A
+get 0 5
+table
+show 0 4
+close 0
+lock A
+delete A
+unlock A
+rename A B.TXT
+delete B.TXT
+recover 0
+list
+quit
+not read any more
+"#;
+    let expected = "\
+1 success; count 0
+1 success; count 3
+1 success; count 0
+1 success; count 0
+1 success; count 0
+136 the file has ended; count 3
+  0000  61 62 63                                         abc
+0  reading  slot 0, sector 4, offset 3, left 0
+1  closed
+2  closed
+3  closed
+4  closed
+5  closed
+6  closed
+7  closed
+yes; offset 384, length 3
+  0000  61 62 63                                         abc
+1 success; count 0
+1 success; count 0
+167 the file is locked; count 0
+1 success; count 0
+1 success; count 0
+1 success; count 0
+1 success; count 1
+slot  name          sectors   bytes
+   0  B.TXT               1       3
+706 free sectors
+";
+    let folder = Folder::new();
+    assert_eq!(folder.shell(&[], script), (expected.to_string(), Some(0)));
+    assert!(folder.names().is_empty());
+}
+
+#[test]
+fn shell_lends_arguments_as_they_are() {
+    let script = r#"
+cio 0 3 8 "D:A\x9B" -
+cio 0 11 0 "" 126*41
+cio 0 12 0 "" -
+cio 0 3 4 "D:A" -
+cio 0 3 4 "D:A\x00" -
+cio 0 7 0 "" 2*00
+cio 8 7 0 "" 2*00
+cio 0 99 0 "" -
+sector $31 1 $52 5 128*00
+sector $31 1 $57 5 00
+sector 0x31 2 0x52 5 128*00
+poke 5 127 126
+show 0 5
+channel 3 9 0 0 0 0
+cio 0 7 0 "" -
+channel 3 2 300 4 0 0
+cio 3 11 0 "" 41
+recover 200
+format
+table
+"#;
+    let folder = Folder::new();
+    let (printed, status) = folder.shell(&[], script);
+    let lines: Vec<&str> = printed
+        .lines()
+        .filter(|line| !line.starts_with(' '))
+        .collect();
+    let numbers: Vec<&str> = lines
+        .iter()
+        .map(|line| line.split(' ').next().unwrap())
+        .collect();
+    let expected = [
+        "1", "1", "1", "165", "1", "1", "134", "168", "1", "204", "138", "1", "no", "1", "255",
+        "1", "164", "170", "1", "0", "1", "2", "3", "4", "5", "6", "7",
+    ];
+    assert_eq!(numbers, expected, "{printed}");
+    assert_eq!(lines[1], "1 success; count 126");
+    assert_eq!(lines[5], "1 success; count 2");
+    assert!(printed.contains("\n  0000  41 41                                            AA\n"));
+    assert!(printed
+        .contains("\n  0070  00 00 00 00 00 00 00 00 00 00 00 00 00 00 00 01  ................\n"));
+    assert!(printed.ends_with("3  closed\n4  closed\n5  closed\n6  closed\n7  closed\n"));
+    assert_eq!(status, Some(0));
+}
+
+#[test]
+fn shell_goes_on_behind_a_line_it_does_not_understand() {
+    let folder = Folder::new();
+    let script = "open 0 append A\nfly\nget 0\ncio 0 7 0 \"\nchannel 8 0 0 0 0 0\npoke 1 128 0\nsave\nget 256 1\nstatus A\n";
+    let (printed, status) = folder.shell(&[], script);
+    assert_eq!(
+        printed
+            .lines()
+            .filter(|line| line.starts_with("? "))
+            .count(),
+        8,
+        "{printed}"
+    );
+    assert!(
+        printed.ends_with("170 no file has this name; count 0\n"),
+        "{printed}"
+    );
+    assert_eq!(status, Some(1));
+}
+
+#[test]
+fn shell_writes_a_file_only_by_save() {
+    let folder = Folder::with_disk(two_files);
+    let before = folder.read("disk");
+    let (printed, _) = folder.shell(&["disk"], "delete B\n");
+    assert_eq!(printed, "1 success; count 0\nchanges not saved\n");
+    assert_eq!(folder.read("disk"), before);
+    let (printed, _) = folder.shell(&["disk"], "delete B\nsave\nsave copy\nrecover 1\nsave\n");
+    let path = folder.0.join("disk").canonicalize().unwrap();
+    let path = path.display();
+    let expected =
+        format!("1 success; count 0\nsaved {path}\nsaved copy\n1 success; count 2\nsaved {path}\n");
+    assert_eq!(printed, expected);
+    assert_eq!(folder.read("disk"), before);
+    assert!(folder
+        .run(&["list", "copy"])
+        .contains("deleted, can be recovered"));
+    let (printed, status) = folder.shell(&[], "open 2 write A\nsave copy\nsave new\n");
+    assert!(
+        printed.contains("? copy: already exists\nsaved new\nchannel 2 is still writing"),
+        "{printed}"
+    );
+    assert_eq!(status, Some(1));
+    assert_eq!(folder.names(), ["copy", "disk", "new"]);
+}
+
+#[test]
+fn shell_serves_an_image_of_another_length_with_203() {
+    let folder = Folder::new();
+    folder.write("short", &[0; 10]);
+    let (printed, status) = folder.shell(&["short"], "status A\npoke 1 0 0\nshow 0 4\n");
+    assert_eq!(
+        printed.lines().map(|line| &line[..2]).collect::<Vec<_>>(),
+        ["20", "20", "no"]
+    );
+    assert_eq!(status, Some(0));
+}
+
+#[test]
+fn shell_makes_the_calls_on_a_record_and_on_a_name() {
+    let script = r#"
+open 0 write A
+put 0 "abc"
+close 0
+thin-get 1 0 0 0 1 2*00
+thin-put 0 0 0 0 0 2*41
+name "D:A.TXT\x9B" 11*00
+name "D2:A\x9B" 11*00
+"#;
+    let expected = "\
+1 success; count 0
+1 success; count 3
+1 success; count 0
+1 success; count 2
+record 1 0 4 2 0
+  0000  61 62                                            ab
+133 the channel is closed; count 0
+record 0 0 0 0 0
+1 success; count 0
+  0000  41 20 20 20 20 20 20 20 54 58 54                 A       TXT
+160 no such drive: there is only drive 1; count 0
+  0000  00 00 00 00 00 00 00 00 00 00 00                 ...........
+";
+    let folder = Folder::new();
+    assert_eq!(folder.shell(&[], script), (expected.to_string(), Some(0)));
+}

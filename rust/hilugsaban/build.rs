@@ -1,0 +1,17 @@
+//! Links the proved archive `libcapi.a`: from the folder `HILUGSABAN_LIB`, an absolute path, else from the repository's
+//! `target/staticlib`.
+use std::{env, path::PathBuf};
+
+fn main() {
+    println!("cargo:rerun-if-env-changed=HILUGSABAN_LIB");
+    let folder = match env::var_os("HILUGSABAN_LIB") {
+        Some(folder) => PathBuf::from(folder),
+        None => PathBuf::from(env::var_os("CARGO_MANIFEST_DIR").expect("cargo sets it"))
+            .join("../../target/staticlib"),
+    };
+    let archive = folder.join("libcapi.a");
+    assert!(archive.is_file(), "no {}: run `rt staticlib capi` in the repository, or set HILUGSABAN_LIB to the folder of libcapi.a", archive.display());
+    println!("cargo:rerun-if-changed={}", archive.display());
+    println!("cargo:rustc-link-search=native={}", folder.display());
+    println!("cargo:rustc-link-lib=static=capi");
+}

@@ -1,0 +1,217 @@
+//! What a call answers: a status and a count.
+
+use std::{error::Error, fmt, io};
+
+/// Declares each status once: its name, its number and its message.
+macro_rules! statuses {
+    ($($name:ident = $number:literal, $message:literal;)*) => {
+        /// A status number, by name.
+        ///
+        /// ```
+        /// use hilugsaban::Status;
+        ///
+        /// assert_eq!(Status::NotFound.number(), 170);
+        /// assert_eq!(Status::NotFound.to_string(), "no file has this name");
+        /// ```
+        #[derive(Clone, Copy, PartialEq, Eq, Hash, Debug)]
+        #[non_exhaustive]
+        #[repr(u8)]
+        pub enum Status {
+            $(#[doc = concat!(stringify!($number), ": ", $message, ".")] $name = $number,)*
+        }
+
+        impl Status {
+            /// Every status, by rising number.
+            pub const ALL: &'static [Status] = &[$(Status::$name),*];
+
+            /// The status with this number.
+            pub fn from_number(number: u8) -> Option<Status> {
+                match number {
+                    $($number => Some(Status::$name),)*
+                    _ => None,
+                }
+            }
+
+            /// What it means, in a few words.
+            pub fn message(self) -> &'static str {
+                match self {
+                    $(Status::$name => $message,)*
+                }
+            }
+        }
+    };
+}
+
+statuses! {
+    Success = 1, "success";
+    ChannelOpen = 129, "the channel is open and must be closed for this command";
+    BadDevice = 130, "the name does not begin with D: or D1:";
+    WriteOnly = 131, "the channel is open for writing only";
+    BadCommand = 132, "no such command";
+    ChannelClosed = 133, "the channel is closed";
+    BadChannel = 134, "no such channel: they are 0 to 7";
+    ReadOnly = 135, "the channel is open for reading only";
+    EndOfFile = 136, "the file has ended";
+    NoDevice = 138, "no such device: only device $31, unit 1 answers";
+    BadRequest = 139, "no such sector or sector command";
+    BadUnit = 160, "no such drive: there is only drive 1";
+    NoChannel = 161, "all eight channels are open";
+    DiskFull = 162, "no sector is free";
+    BadTable = 163, "the disk's volume table is damaged";
+    BadChain = 164, "the file's chain of sectors is damaged";
+    BadName = 165, "the name is malformed: capitals and digits, a letter first, at most 8 and 3";
+    FileLocked = 167, "the file is locked";
+    NotServed = 168, "the command or direction is not served";
+    NoSlot = 169, "the directory is full";
+    NotFound = 170, "no file has this name";
+    FileHeld = 200, "the file is open";
+    NameTaken = 201, "another file has this name";
+    LostChain = 202, "not all sectors of the deleted file are still free and its own";
+    BadImage = 203, "the image is not 92160 bytes long";
+    BadLength = 204, "the buffer is not 128 bytes long";
+    BadArgument = 255, "a channel of no known kind, or a table of the wrong length";
+}
+
+impl Status {
+    /// The number that the library answers.
+    pub fn number(self) -> u8 {
+        self as u8
+    }
+
+    /// `Ok` for a success, else the refusal.
+    pub fn ok(self) -> Result<(), Status> {
+        match self {
+            Status::Success => Ok(()),
+            refusal => Err(refusal),
+        }
+    }
+}
+
+impl fmt::Display for Status {
+    fn fmt(&self, f: &mut fmt::Formatter<'_>) -> fmt::Result {
+        f.write_str(self.message())
+    }
+}
+
+impl Error for Status {}
+
+impl From<Status> for io::Error {
+    fn from(status: Status) -> io::Error {
+        use io::ErrorKind::*;
+        let kind = match status {
+            Status::NotFound => NotFound,
+            Status::FileLocked | Status::WriteOnly | Status::ReadOnly => PermissionDenied,
+            Status::FileHeld | Status::ChannelOpen | Status::NoChannel => ResourceBusy,
+            Status::NameTaken => AlreadyExists,
+            Status::DiskFull | Status::NoSlot => StorageFull,
+            Status::EndOfFile => UnexpectedEof,
+            Status::BadTable | Status::BadChain | Status::LostChain | Status::BadImage => {
+                InvalidData
+            }
+            _ => InvalidInput,
+        };
+        io::Error::new(kind, status)
+    }
+}
+
+/// Status and count of a call.
+#[derive(Clone, Copy, PartialEq, Eq, Debug)]
+#[must_use]
+pub struct Answer {
+    /// Whether the call did what was asked, or why not.
+    pub status: Status,
+    /// Bytes of a get, put or sector call, sectors of a recovery, else 0.
+    pub count: usize,
+}
+
+impl Answer {
+    /// Takes the word that a call of [`raw`](crate::raw) answers apart.
+    pub fn from_word(word: u64) -> Answer {
+        let number = (word & 255) as u8;
+        let Some(status) = Status::from_number(number) else {
+            panic!("libcapi.a answered {number}, a status that this version of the crate does not know")
+        };
+        Answer {
+            status,
+            count: (word >> 8) as usize,
+        }
+    }
+
+    /// The count of a success, else the refusal alone.
+    pub fn ok(self) -> Result<usize, Status> {
+        self.status.ok().map(|()| self.count)
+    }
+
+    /// The count of a success, else the refusal with the count of what was done.
+    pub fn complete(self) -> Result<usize, Incomplete> {
+        match self.status {
+            Status::Success => Ok(self.count),
+            status => Err(Incomplete {
+                status,
+                count: self.count,
+            }),
+        }
+    }
+}
+
+/// A get or put that did not transfer all its bytes.
+#[derive(Clone, Copy, PartialEq, Eq, Debug)]
+pub struct Incomplete {
+    /// Why it stopped.
+    pub status: Status,
+    /// The bytes transferred before that.
+    pub count: usize,
+}
+
+impl fmt::Display for Incomplete {
+    fn fmt(&self, f: &mut fmt::Formatter<'_>) -> fmt::Result {
+        write!(f, "{} after {} bytes", self.status, self.count)
+    }
+}
+
+impl Error for Incomplete {
+    fn source(&self) -> Option<&(dyn Error + 'static)> {
+        Some(&self.status)
+    }
+}
+
+impl From<Incomplete> for Status {
+    fn from(incomplete: Incomplete) -> Status {
+        incomplete.status
+    }
+}
+
+#[cfg(test)]
+mod tests {
+    use super::*;
+
+    #[test]
+    fn numbers_name_their_status() {
+        for &status in Status::ALL {
+            assert_eq!(Status::from_number(status.number()), Some(status));
+        }
+        assert_eq!(
+            (0..=255).filter_map(Status::from_number).count(),
+            Status::ALL.len()
+        );
+        assert!(Status::ALL
+            .windows(2)
+            .all(|pair| pair[0].number() < pair[1].number()));
+    }
+
+    #[test]
+    fn words_come_apart() {
+        assert_eq!(
+            Answer::from_word(136 + 256 * 88_375),
+            Answer {
+                status: Status::EndOfFile,
+                count: 88_375
+            }
+        );
+        assert_eq!(Answer::from_word(1).ok(), Ok(0));
+        assert_eq!(Answer::from_word(170).ok(), Err(Status::NotFound));
+        let full = Answer::from_word(162 + 256 * 3).complete().unwrap_err();
+        assert_eq!(full.to_string(), "no sector is free after 3 bytes");
+        assert_eq!(Status::from(full), Status::DiskFull);
+    }
+}

@@ -1,0 +1,349 @@
+//! A disk image with its channels, and the calls on it.
+
+use crate::{
+    answer::{Answer, Incomplete},
+    name::lent,
+    raw, Channel, Reader, Status, Table, Writer, IMAGE_BYTES,
+};
+
+/// Numbers of the commands, for [`Disk::cio`] and [`Disk::sector`].
+pub mod command {
+    /// Opens a file on a closed channel.
+    pub const OPEN: u8 = 3;
+    /// Reads from a channel.
+    pub const GET: u8 = 7;
+    /// Writes to a channel.
+    pub const PUT: u8 = 11;
+    /// Closes a channel.
+    pub const CLOSE: u8 = 12;
+    /// Asks whether a file is there and not locked.
+    pub const STATUS: u8 = 13;
+    /// Renames a file.
+    pub const RENAME: u8 = 32;
+    /// Deletes a file.
+    pub const DELETE: u8 = 33;
+    /// Locks a file.
+    pub const LOCK: u8 = 35;
+    /// Unlocks a file.
+    pub const UNLOCK: u8 = 36;
+    /// Makes the disk fresh.
+    pub const FORMAT: u8 = 254;
+    /// Reads a sector, in a sector call.
+    pub const READ_SECTOR: u8 = 0x52;
+    /// Writes a sector, in a sector call; 0x50 does the same.
+    pub const WRITE_SECTOR: u8 = 0x57;
+}
+
+/// The device and unit that sector calls answer for.
+const SECTOR_DEVICE: u8 = 0x31;
+const SECTOR_UNIT: u8 = 1;
+
+/// What a file is opened for.
+#[derive(Clone, Copy, PartialEq, Eq, Debug)]
+#[repr(u8)]
+pub enum Direction {
+    /// A standing file, from its first byte.
+    Read = 4,
+    /// A new file, or a standing one emptied.
+    Write = 8,
+}
+
+/// A disk image, owned or borrowed, with its table of channels.
+///
+/// `B` is anything that lends bytes: `Vec<u8>`, `Box<[u8]>`, `&mut [u8]`; a `&[u8]` can be shown and read by thin calls. An
+/// image of another length than 92,160 bytes is refused by each call.
+///
+/// ```
+/// use hilugsaban::{Direction, Disk, Status};
+///
+/// let mut bytes = vec![0; 92160];
+/// let mut disk = Disk::new(&mut bytes[..]);
+/// disk.format()?;
+/// disk.open(1, Direction::Write, "A")?;
+/// assert_eq!(disk.put(1, b"three")?, 5);
+/// disk.close(1)?;
+/// assert_eq!(&bytes[3 * 128..][..5], b"three");
+///
+/// assert_eq!(Disk::new([0; 100]).delete("A"), Err(Status::BadImage));
+/// # Ok::<(), Box<dyn std::error::Error>>(())
+/// ```
+#[derive(Clone, Debug)]
+pub struct Disk<B> {
+    image: B,
+    table: Table,
+}
+
+impl Disk<Vec<u8>> {
+    /// A freshly formatted disk.
+    pub fn fresh() -> Disk<Vec<u8>> {
+        let mut disk = Disk::new(vec![0; IMAGE_BYTES]);
+        disk.format()
+            .expect("an image of the right length with all channels closed is formatted");
+        disk
+    }
+}
+
+impl<B> Disk<B> {
+    /// The disk in these bytes, with all channels closed.
+    pub fn new(image: B) -> Disk<B> {
+        Disk::with_table(image, Table::new())
+    }
+
+    /// The disk in these bytes, with its channels as they were.
+    pub fn with_table(image: B, table: Table) -> Disk<B> {
+        Disk { image, table }
+    }
+
+    /// The channels.
+    pub fn table(&self) -> &Table {
+        &self.table
+    }
+
+    /// The channels, to be changed.
+    pub fn table_mut(&mut self) -> &mut Table {
+        &mut self.table
+    }
+
+    /// The image and the channels.
+    pub fn into_parts(self) -> (B, Table) {
+        (self.image, self.table)
+    }
+}
+
+impl<B: AsRef<[u8]>> Disk<B> {
+    /// The image.
+    pub fn image(&self) -> &[u8] {
+        self.image.as_ref()
+    }
+
+    /// The data of one file sector, as part of the image: none if a get for this slot could not enter the sector.
+    ///
+    /// ```
+    /// # use hilugsaban::{Direction, Disk};
+    /// # let mut disk = Disk::fresh();
+    /// disk.open(0, Direction::Write, "A")?;
+    /// disk.put(0, b"three")?;
+    /// assert_eq!(disk.show(0, 4), Some(&b"three"[..]));
+    /// assert_eq!(disk.show(1, 4), None);
+    /// # Ok::<(), Box<dyn std::error::Error>>(())
+    /// ```
+    pub fn show(&self, slot: u8, sector: u16) -> Option<&[u8]> {
+        let word = raw::show(self.image(), slot, sector);
+        let (offset, length) = ((word >> 18) as usize, (word >> 8 & 1023) as usize);
+        (word & 255 == 1).then(|| &self.image()[offset..offset + length])
+    }
+
+    /// A get on a channel that is not in the table, which it moves on.
+    ///
+    /// ```
+    /// # use hilugsaban::{Channel, Direction, Disk};
+    /// # let mut disk = Disk::fresh();
+    /// # disk.open(0, Direction::Write, "A")?;
+    /// # disk.put(0, b"three")?;
+    /// let mut channel = Channel::reading(0, 1);
+    /// let mut bytes = [0; 2];
+    /// assert_eq!(disk.thin_get(&mut channel, &mut bytes)?, 2);
+    /// assert_eq!((&bytes, channel.sector, channel.offset), (b"th", 4, 2));
+    /// # Ok::<(), Box<dyn std::error::Error>>(())
+    /// ```
+    pub fn thin_get(&self, channel: &mut Channel, buffer: &mut [u8]) -> Result<usize, Incomplete> {
+        let mut words = channel.words();
+        let word = raw::thin_get(self.image(), &mut words, buffer);
+        *channel = words.into();
+        Answer::from_word(word).complete()
+    }
+}
+
+impl<B: AsMut<[u8]>> Disk<B> {
+    /// The image, to be changed.
+    pub fn image_mut(&mut self) -> &mut [u8] {
+        self.image.as_mut()
+    }
+
+    /// One CIO command, every argument lent as it is: the name needs its device and its ending byte.
+    ///
+    /// ```
+    /// use hilugsaban::{command, Disk, Status};
+    ///
+    /// let mut disk = Disk::fresh();
+    /// let answer = disk.cio(0, command::OPEN, 4, b"D:A\x9B", &mut []);
+    /// assert_eq!((answer.status, answer.count), (Status::NotFound, 0));
+    /// ```
+    pub fn cio(
+        &mut self,
+        channel: u8,
+        command: u8,
+        direction: u8,
+        name: &[u8],
+        buffer: &mut [u8],
+    ) -> Answer {
+        Answer::from_word(raw::cio(
+            self.image.as_mut(),
+            self.table.words_mut(),
+            channel,
+            command,
+            direction,
+            name,
+            buffer,
+        ))
+    }
+
+    /// Opens a file on a closed channel: to read a standing one, or to write a new one or a standing one anew.
+    pub fn open(&mut self, channel: u8, direction: Direction, name: &str) -> Result<(), Status> {
+        self.cio(
+            channel,
+            command::OPEN,
+            direction as u8,
+            &lent(name)?,
+            &mut [],
+        )
+        .status
+        .ok()
+    }
+
+    /// Fills the buffer from a reading channel. At the file's end it is [`Incomplete`] with [`Status::EndOfFile`], and the
+    /// rest of the buffer stays as it was.
+    pub fn get(&mut self, channel: u8, buffer: &mut [u8]) -> Result<usize, Incomplete> {
+        self.cio(channel, command::GET, 0, &[], buffer).complete()
+    }
+
+    /// Adds bytes at the end of a writing channel's file. On a full disk it is [`Incomplete`] with [`Status::DiskFull`], and
+    /// the bytes that fitted stay.
+    pub fn put(&mut self, channel: u8, bytes: &[u8]) -> Result<usize, Incomplete> {
+        self.cio(channel, command::PUT, 0, &[], &mut bytes.to_vec())
+            .complete()
+    }
+
+    /// Closes a channel. It is closed also where the answer is [`Status::BadChain`].
+    pub fn close(&mut self, channel: u8) -> Result<(), Status> {
+        self.cio(channel, command::CLOSE, 0, &[], &mut [])
+            .status
+            .ok()
+    }
+
+    /// Whether a file is there: `Ok`, [`Status::FileLocked`] or [`Status::NotFound`].
+    pub fn status(&mut self, name: &str) -> Result<(), Status> {
+        self.on_name(command::STATUS, name)
+    }
+
+    /// Gives a file another name. The new name has no device.
+    ///
+    /// ```
+    /// # use hilugsaban::{Direction, Disk, Status};
+    /// # let mut disk = Disk::fresh();
+    /// # disk.open(0, Direction::Write, "A")?;
+    /// # disk.close(0)?;
+    /// disk.rename("A", "B.TXT")?;
+    /// assert_eq!(disk.status("A"), Err(Status::NotFound));
+    /// assert_eq!(disk.status("B.TXT"), Ok(()));
+    /// # Ok::<(), Status>(())
+    /// ```
+    pub fn rename(&mut self, old: &str, new: &str) -> Result<(), Status> {
+        self.on_name(command::RENAME, &format!("{old},{new}"))
+    }
+
+    /// Deletes a file. Its bytes stay until their sectors are given out again, see [`Disk::recover`].
+    pub fn delete(&mut self, name: &str) -> Result<(), Status> {
+        self.on_name(command::DELETE, name)
+    }
+
+    /// Locks a file against writing, renaming and deleting.
+    pub fn lock(&mut self, name: &str) -> Result<(), Status> {
+        self.on_name(command::LOCK, name)
+    }
+
+    /// Takes a lock off.
+    pub fn unlock(&mut self, name: &str) -> Result<(), Status> {
+        self.on_name(command::UNLOCK, name)
+    }
+
+    /// Makes the disk fresh: no files, 707 free sectors. Every channel must be closed.
+    pub fn format(&mut self) -> Result<(), Status> {
+        self.on_name(command::FORMAT, "D:")
+    }
+
+    /// A command on a name. It runs on the lowest closed channel; where all eight are open, the library answers
+    /// [`Status::ChannelOpen`].
+    fn on_name(&mut self, command: u8, name: &str) -> Result<(), Status> {
+        let channel = self.table.closed().unwrap_or(0);
+        self.cio(channel, command, 0, &lent(name)?, &mut [])
+            .status
+            .ok()
+    }
+
+    /// Takes the deleted file in a directory slot back, and answers its number of sectors.
+    pub fn recover(&mut self, slot: u8) -> Result<usize, Status> {
+        Answer::from_word(raw::recover(self.image.as_mut(), slot)).ok()
+    }
+
+    /// A sector call, every argument lent as it is.
+    pub fn sector(
+        &mut self,
+        device: u8,
+        unit: u8,
+        command: u8,
+        sector: u16,
+        buffer: &mut [u8],
+    ) -> Answer {
+        Answer::from_word(raw::sector(
+            self.image.as_mut(),
+            device,
+            unit,
+            command,
+            sector,
+            buffer,
+        ))
+    }
+
+    /// Reads a sector into a buffer of its size.
+    ///
+    /// ```
+    /// # use hilugsaban::{Disk, Status};
+    /// # let mut disk = Disk::fresh();
+    /// let mut volume_table = [0; 128];
+    /// assert_eq!(disk.read_sector(360, &mut volume_table)?, 128);
+    /// assert_eq!(u16::from_le_bytes([volume_table[3], volume_table[4]]), 707);
+    /// assert_eq!(disk.read_sector(721, &mut volume_table), Err(Status::BadRequest));
+    /// # Ok::<(), Status>(())
+    /// ```
+    pub fn read_sector(&mut self, sector: u16, buffer: &mut [u8]) -> Result<usize, Status> {
+        self.sector(
+            SECTOR_DEVICE,
+            SECTOR_UNIT,
+            command::READ_SECTOR,
+            sector,
+            buffer,
+        )
+        .ok()
+    }
+
+    /// Writes a sector from bytes of its size.
+    pub fn write_sector(&mut self, sector: u16, bytes: &[u8]) -> Result<usize, Status> {
+        self.sector(
+            SECTOR_DEVICE,
+            SECTOR_UNIT,
+            command::WRITE_SECTOR,
+            sector,
+            &mut bytes.to_vec(),
+        )
+        .ok()
+    }
+
+    /// A put on a channel that is not in the table, which it moves on. It copies the bytes once, [`Disk::put`] twice.
+    pub fn thin_put(&mut self, channel: &mut Channel, bytes: &[u8]) -> Result<usize, Incomplete> {
+        let mut words = channel.words();
+        let word = raw::thin_put(self.image.as_mut(), &mut words, bytes);
+        *channel = words.into();
+        Answer::from_word(word).complete()
+    }
+
+    /// An open channel as [`std::io::Read`].
+    pub fn reader(&mut self, channel: u8) -> Reader<'_, B> {
+        Reader::new(self, channel)
+    }
+
+    /// An open channel as [`std::io::Write`].
+    pub fn writer(&mut self, channel: u8) -> Writer<'_, B> {
+        Writer::new(self, channel)
+    }
+}

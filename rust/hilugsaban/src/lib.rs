@@ -1,0 +1,61 @@
+//! Atari DOS 2 disk images in memory.
+//!
+//! A [`Disk`] is an image of 92,160 bytes, owned or borrowed, with its table of eight channels. Its calls are those of the
+//! proved library `libcapi.a`: CIO commands on files, sector reads and writes, recovery of a deleted file, and the data of
+//! one sector in place. Nothing here decides what a call does; this crate lends the arguments and names the answers.
+//!
+//! ```
+//! use hilugsaban::{Direction, Disk, Status};
+//! use std::io::{Read, Write};
+//!
+//! let mut disk = Disk::fresh();
+//! disk.open(0, Direction::Write, "ENDS.DAT")?;
+//! write!(disk.writer(0), "LANE 4  {}", 58.31)?;
+//! disk.close(0)?;
+//!
+//! disk.delete("ENDS.DAT")?;
+//! assert_eq!(disk.open(0, Direction::Read, "ENDS.DAT"), Err(Status::NotFound));
+//! assert_eq!(disk.recover(0)?, 1);
+//!
+//! let mut text = String::new();
+//! disk.open(0, Direction::Read, "ENDS.DAT")?;
+//! disk.reader(0).read_to_string(&mut text)?;
+//! disk.close(0)?;
+//! assert_eq!(text, "LANE 4  58.31");
+//! # Ok::<(), Box<dyn std::error::Error>>(())
+//! ```
+//!
+//! # Names
+//!
+//! A name is a letter and up to seven letters or digits, then optionally a point and up to three letters or digits, capitals
+//! only. It may begin with its device, `D:` or `D1:`; without one, `D:` is put before it. The ending byte that the library
+//! asks for is put behind it, so a name that holds an ending byte itself (0 or $9B) is refused as malformed.
+//!
+//! # Exact calls
+//!
+//! [`Disk::cio`] lends every argument as it is, and [`raw`] has the functions of the archive over slices.
+#![deny(unsafe_code)]
+#![warn(missing_docs)]
+
+mod answer;
+mod disk;
+mod name;
+#[allow(unsafe_code)]
+pub mod raw;
+mod stream;
+mod table;
+
+pub use answer::{Answer, Incomplete, Status};
+pub use disk::{command, Direction, Disk};
+pub use name::padded_name;
+pub use stream::{Reader, Writer};
+pub use table::{Channel, Table, CHANNELS, CLOSED, READING, WRITING};
+
+/// Bytes of an image: sectors 1 to 720 of 128 bytes.
+pub const IMAGE_BYTES: usize = 92_160;
+
+/// Bytes of a sector.
+pub const SECTOR_BYTES: usize = 128;
+
+/// Slots of the directory.
+pub const SLOTS: u8 = 64;

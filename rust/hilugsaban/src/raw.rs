@@ -1,0 +1,158 @@
+//! The functions of `libcapi.a` over slices. All unsafe code of the crate is here.
+//!
+//! `include/hilugsaban.h` says what each answers. Except for [`show`], an answer is status + 256 * count.
+//!
+//! Every call is sound for every argument: the functions have no precondition beyond valid parts that do not overlap, which
+//! references of Rust are; an empty slice has a pointer that is not null.
+
+mod archive {
+    extern "C" {
+        pub fn dos_cio(
+            image: *mut u8,
+            image_length: usize,
+            table: *mut u16,
+            table_length: usize,
+            channel: u8,
+            command: u8,
+            direction: u8,
+            name: *const u8,
+            name_length: usize,
+            buffer: *mut u8,
+            buffer_length: usize,
+        ) -> u64;
+        pub fn dos_recover(image: *mut u8, image_length: usize, slot: u8) -> u64;
+        pub fn dos_sector(
+            image: *mut u8,
+            image_length: usize,
+            device: u8,
+            unit: u8,
+            command: u8,
+            sector: u16,
+            buffer: *mut u8,
+            buffer_length: usize,
+        ) -> u64;
+        pub fn dos_show(image: *const u8, image_length: usize, slot: u8, sector: u16) -> u64;
+        pub fn dos_thin_get(
+            image: *const u8,
+            image_length: usize,
+            channel: *mut u16,
+            channel_length: usize,
+            buffer: *mut u8,
+            buffer_length: usize,
+        ) -> u64;
+        pub fn dos_thin_put(
+            image: *mut u8,
+            image_length: usize,
+            channel: *mut u16,
+            channel_length: usize,
+            buffer: *const u8,
+            buffer_length: usize,
+        ) -> u64;
+        pub fn dos_name(
+            name: *const u8,
+            name_length: usize,
+            eleven: *mut u8,
+            eleven_length: usize,
+        ) -> u64;
+    }
+}
+
+/// A CIO command on one channel of the table.
+pub fn cio(
+    image: &mut [u8],
+    table: &mut [u16],
+    channel: u8,
+    command: u8,
+    direction: u8,
+    name: &[u8],
+    buffer: &mut [u8],
+) -> u64 {
+    // SAFETY: each part is a reference's pointer and length; those that are written are borrowed for this call alone.
+    unsafe {
+        archive::dos_cio(
+            image.as_mut_ptr(),
+            image.len(),
+            table.as_mut_ptr(),
+            table.len(),
+            channel,
+            command,
+            direction,
+            name.as_ptr(),
+            name.len(),
+            buffer.as_mut_ptr(),
+            buffer.len(),
+        )
+    }
+}
+
+/// Takes the deleted file in a slot back.
+pub fn recover(image: &mut [u8], slot: u8) -> u64 {
+    // SAFETY: as for `cio`.
+    unsafe { archive::dos_recover(image.as_mut_ptr(), image.len(), slot) }
+}
+
+/// Reads or writes a sector.
+pub fn sector(
+    image: &mut [u8],
+    device: u8,
+    unit: u8,
+    command: u8,
+    sector: u16,
+    buffer: &mut [u8],
+) -> u64 {
+    // SAFETY: as for `cio`.
+    unsafe {
+        archive::dos_sector(
+            image.as_mut_ptr(),
+            image.len(),
+            device,
+            unit,
+            command,
+            sector,
+            buffer.as_mut_ptr(),
+            buffer.len(),
+        )
+    }
+}
+
+/// Where the data of a sector stand in the image: 1 or 0 in the low eight bits, above them offset * 1024 + length.
+pub fn show(image: &[u8], slot: u8, sector: u16) -> u64 {
+    // SAFETY: as for `cio`.
+    unsafe { archive::dos_show(image.as_ptr(), image.len(), slot, sector) }
+}
+
+/// A get on one channel that is lent by itself.
+pub fn thin_get(image: &[u8], channel: &mut [u16], buffer: &mut [u8]) -> u64 {
+    // SAFETY: as for `cio`.
+    unsafe {
+        archive::dos_thin_get(
+            image.as_ptr(),
+            image.len(),
+            channel.as_mut_ptr(),
+            channel.len(),
+            buffer.as_mut_ptr(),
+            buffer.len(),
+        )
+    }
+}
+
+/// A put on one channel that is lent by itself.
+pub fn thin_put(image: &mut [u8], channel: &mut [u16], buffer: &[u8]) -> u64 {
+    // SAFETY: as for `cio`.
+    unsafe {
+        archive::dos_thin_put(
+            image.as_mut_ptr(),
+            image.len(),
+            channel.as_mut_ptr(),
+            channel.len(),
+            buffer.as_ptr(),
+            buffer.len(),
+        )
+    }
+}
+
+/// Takes a name apart into its eleven padded bytes.
+pub fn name(name: &[u8], eleven: &mut [u8]) -> u64 {
+    // SAFETY: as for `cio`.
+    unsafe { archive::dos_name(name.as_ptr(), name.len(), eleven.as_mut_ptr(), eleven.len()) }
+}

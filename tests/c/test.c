@@ -1,0 +1,337 @@
+/*
+ * The bench examples and every call of the library, through the header.
+ * Compiles as C99 and as C++. Prints what differs; exit status 0 when nothing does.
+ */
+#include "hilugsaban.h"
+
+#include <stdio.h>
+#include <string.h>
+
+static uint8_t image[DOS_IMAGE_BYTES];
+static uint8_t before[DOS_IMAGE_BYTES];
+static uint16_t table[DOS_TABLE_WORDS + 1];
+static uint8_t buffer[DOS_IMAGE_BYTES];
+static int failures;
+
+/* Reports an answer that is not the expected status and count. */
+static void expect(int line, uint64_t answer, unsigned status, size_t count)
+{
+    if (dos_answer_status(answer) != status || dos_answer_count(answer) != count) {
+        printf("line %d: status %u count %lu, expected %u and %lu\n", line, (unsigned)dos_answer_status(answer),
+               (unsigned long)dos_answer_count(answer), status, (unsigned long)count);
+        failures++;
+    }
+}
+
+static void expect_true(int line, int holds)
+{
+    if (!holds) {
+        printf("line %d: does not hold\n", line);
+        failures++;
+    }
+}
+
+#define EXPECT(answer, status, count) expect(__LINE__, answer, status, count)
+#define HOLDS(condition) expect_true(__LINE__, condition)
+
+/* A call with a name, which is lent with its ending 0. */
+static uint64_t by_name(uint8_t channel, uint8_t command, uint8_t direction, const char *name)
+{
+    return dos_cio(image, DOS_IMAGE_BYTES, table, DOS_TABLE_WORDS, channel, command, direction,
+                   (const uint8_t *)name, strlen(name) + 1, NULL, 0);
+}
+
+/* A call with a buffer. */
+static uint64_t by_buffer(uint8_t channel, uint8_t command, uint8_t *bytes, size_t length)
+{
+    return dos_cio(image, DOS_IMAGE_BYTES, table, DOS_TABLE_WORDS, channel, command, 0, NULL, 0, bytes, length);
+}
+
+/* A fresh disk with all channels closed. */
+static void fresh(void)
+{
+    memset(table, 0, sizeof table);
+    memset(image, 0xA5, sizeof image);
+    EXPECT(by_name(0, DOS_FORMAT, 0, "D:"), DOS_SUCCESS, 0);
+}
+
+/* Makes a file of the given length with the buffer's first bytes. */
+static void make(const char *name, size_t length)
+{
+    EXPECT(by_name(0, DOS_OPEN, DOS_WRITE, name), DOS_SUCCESS, 0);
+    EXPECT(by_buffer(0, DOS_PUT, buffer, length), DOS_SUCCESS, length);
+    EXPECT(by_buffer(0, DOS_CLOSE, NULL, 0), DOS_SUCCESS, 0);
+}
+
+static uint64_t recover(uint8_t slot)
+{
+    return dos_recover(image, DOS_IMAGE_BYTES, slot);
+}
+
+static const uint8_t *sector(unsigned number)
+{
+    return image + (number - 1) * DOS_SECTOR_BYTES;
+}
+
+static void remember(void)
+{
+    memcpy(before, image, sizeof image);
+}
+
+static int unchanged(void)
+{
+    return memcmp(before, image, sizeof image) == 0;
+}
+
+/* Examples 1, 5, 6 and 7: format, put and get. */
+static void files(void)
+{
+    uint8_t out[5] = {9, 9, 9, 9, 9};
+
+    fresh();
+    HOLDS(sector(360)[10] == 0x0F && sector(360)[55] == 0x00 && sector(360)[56] == 0x7F);
+    HOLDS(sector(360)[3] == 707 % 256 && sector(360)[4] == 707 / 256);
+    make("D:A", 126);
+    HOLDS(memcmp(sector(4) + 125, "\x00\x05\x7D", 3) == 0 && memcmp(sector(5) + 125, "\x00\x00\x01", 3) == 0);
+    make("D:B", 125);
+    HOLDS(memcmp(sector(6) + 125, "\x04\x00\x7D", 3) == 0);
+
+    fresh();
+    make("D:A", 3);
+    EXPECT(by_name(7, DOS_OPEN, DOS_READ, "D:A"), DOS_SUCCESS, 0);
+    EXPECT(by_buffer(7, DOS_GET, out, 5), DOS_END_OF_FILE, 3);
+    HOLDS(memcmp(out, buffer, 3) == 0 && out[3] == 9 && out[4] == 9);
+    EXPECT(by_buffer(7, DOS_CLOSE, NULL, 0), DOS_SUCCESS, 0);
+    EXPECT(by_name(7, DOS_OPEN, DOS_READ, "D1:A"), DOS_SUCCESS, 0);
+    EXPECT(by_buffer(7, DOS_GET, out, 3), DOS_SUCCESS, 3);
+    EXPECT(by_buffer(7, DOS_GET, out, 1), DOS_END_OF_FILE, 0);
+
+    fresh();
+    EXPECT(by_name(0, DOS_OPEN, DOS_WRITE, "D:A"), DOS_SUCCESS, 0);
+    EXPECT(by_buffer(0, DOS_PUT, buffer, 88375), DOS_SUCCESS, 88375);
+    EXPECT(by_buffer(0, DOS_PUT, buffer, 1), DOS_DISK_FULL, 0);
+}
+
+/* Examples 7 (a 65th file), 8, 9 and 10: slots and recovery. */
+static void recovery(void)
+{
+    char name[] = "D:A0";
+    int i;
+
+    fresh();
+    for (i = 0; i < DOS_SLOTS; i++) {
+        name[2] = (char)('A' + i / 10);
+        name[3] = (char)('0' + i % 10);
+        make(name, 1);
+    }
+    EXPECT(by_name(0, DOS_OPEN, DOS_WRITE, "D:Z"), DOS_NO_SLOT, 0);
+
+    fresh();
+    make("D:A", 1);
+    make("D:B", 1);
+    EXPECT(by_name(0, DOS_DELETE, 0, "D:A"), DOS_SUCCESS, 0);
+    EXPECT(recover(0), DOS_SUCCESS, 1);
+    EXPECT(by_name(0, DOS_DELETE, 0, "D:A"), DOS_SUCCESS, 0);
+    make("D:C", 1);
+    EXPECT(recover(0), DOS_NOT_FOUND, 0);
+
+    fresh();
+    make("D:A", 1);
+    make("D:B", 1);
+    EXPECT(by_name(0, DOS_DELETE, 0, "D:A"), DOS_SUCCESS, 0);
+    EXPECT(by_name(0, DOS_DELETE, 0, "D:B"), DOS_SUCCESS, 0);
+    make("D:C", 126);
+    EXPECT(by_name(0, DOS_DELETE, 0, "D:C"), DOS_SUCCESS, 0);
+    EXPECT(recover(1), DOS_LOST_CHAIN, 0);
+    EXPECT(recover(0), DOS_SUCCESS, 2);
+
+    fresh();
+    make("D:A", 1);
+    make("D:B", 1);
+    EXPECT(by_name(0, DOS_DELETE, 0, "D:B"), DOS_SUCCESS, 0);
+    EXPECT(by_name(0, DOS_RENAME, 0, "D:A,B"), DOS_SUCCESS, 0);
+    EXPECT(recover(1), DOS_NAME_TAKEN, 0);
+    EXPECT(recover(64), DOS_NOT_FOUND, 0);
+    EXPECT(dos_recover(image, 92159, 1), DOS_BAD_IMAGE, 0);
+}
+
+/* Examples 2 and 3: names, and what a refused one leaves. */
+static void names(void)
+{
+    static const struct {
+        const char *text;
+        size_t length;
+        unsigned status;
+        const char *eleven;
+    } rows[] = {
+        {"D:A\x9B", 4, DOS_SUCCESS, "A          "},
+        {"D1:ENDS.DAT", 12, DOS_SUCCESS, "ENDS    DAT"},
+        {"D:ABCDEFGH.TXT", 15, DOS_SUCCESS, "ABCDEFGHTXT"},
+        {"D:ABCDEFGHI", 12, DOS_BAD_NAME, NULL},
+        {"D:1A", 5, DOS_BAD_NAME, NULL},
+        {"D:A", 3, DOS_BAD_NAME, NULL},
+        {"D2:A", 5, DOS_BAD_UNIT, NULL},
+        {"E:A", 4, DOS_BAD_DEVICE, NULL},
+        {"D", 1, DOS_BAD_DEVICE, NULL},
+    };
+    uint8_t eleven[12];
+    size_t i;
+
+    for (i = 0; i < sizeof rows / sizeof rows[0]; i++) {
+        memset(eleven, '#', sizeof eleven);
+        expect((int)i, dos_name((const uint8_t *)rows[i].text, rows[i].length, eleven, DOS_NAME_BYTES), rows[i].status, 0);
+        expect_true((int)i, memcmp(eleven, rows[i].eleven ? rows[i].eleven : "###########", 11) == 0 && eleven[11] == '#');
+    }
+    EXPECT(dos_name((const uint8_t *)"D:A", 4, eleven, 12), DOS_BAD_ARGUMENT, 0);
+    EXPECT(dos_name((const uint8_t *)"D:A", 4, eleven, 10), DOS_BAD_ARGUMENT, 0);
+}
+
+/* Refusals of dos_cio in the order of its checks, none of which changes anything. */
+static void refusals(void)
+{
+    static const char name[] = "D:A";
+    const uint8_t *text = (const uint8_t *)name;
+    uint16_t words[DOS_TABLE_WORDS];
+
+    fresh();
+    make("D:A", 3);
+    EXPECT(by_name(1, DOS_OPEN, DOS_READ, "D:A"), DOS_SUCCESS, 0);
+    EXPECT(by_name(2, DOS_OPEN, DOS_WRITE, "D:B"), DOS_SUCCESS, 0);
+    remember();
+    memcpy(words, table, sizeof words);
+    EXPECT(dos_cio(image, DOS_IMAGE_BYTES, table, 39, 0, 13, 0, text, 4, NULL, 0), DOS_BAD_ARGUMENT, 0);
+    EXPECT(dos_cio(image, DOS_IMAGE_BYTES, table, 41, 0, 13, 0, text, 4, NULL, 0), DOS_BAD_ARGUMENT, 0);
+    EXPECT(dos_cio(image, 92161, table, 40, 0, 13, 0, text, 4, NULL, 0), DOS_BAD_IMAGE, 0);
+    EXPECT(by_name(8, DOS_STATUS, 0, "D:A"), DOS_BAD_CHANNEL, 0);
+    EXPECT(by_name(0, 2, 0, "D:A"), DOS_BAD_COMMAND, 0);
+    EXPECT(by_name(0, 99, 0, "D:A"), DOS_NOT_SERVED, 0);
+    EXPECT(by_name(1, DOS_STATUS, 0, "D:A"), DOS_CHANNEL_OPEN, 0);
+    EXPECT(by_buffer(0, DOS_GET, buffer, 1), DOS_CHANNEL_CLOSED, 0);
+    EXPECT(by_buffer(2, DOS_GET, buffer, 1), DOS_WRITE_ONLY, 0);
+    EXPECT(by_buffer(1, DOS_PUT, buffer, 1), DOS_READ_ONLY, 0);
+    EXPECT(by_name(0, DOS_OPEN, 5, "D:A"), DOS_NOT_SERVED, 0);
+    EXPECT(by_name(0, DOS_OPEN, DOS_READ, "D:C"), DOS_NOT_FOUND, 0);
+    EXPECT(by_name(0, DOS_DELETE, 0, "D:A"), DOS_FILE_HELD, 0);
+    EXPECT(by_name(0, DOS_FORMAT, 0, "D:"), DOS_FILE_HELD, 0);
+    HOLDS(unchanged() && memcmp(words, table, sizeof words) == 0);
+
+    table[35] = 3;
+    EXPECT(by_name(0, DOS_STATUS, 0, "D:A"), DOS_BAD_ARGUMENT, 0);
+    table[35] = DOS_KIND_CLOSED;
+    EXPECT(by_buffer(1, DOS_CLOSE, NULL, 0), DOS_SUCCESS, 0);
+    EXPECT(by_name(1, DOS_LOCK, 0, "D:A"), DOS_SUCCESS, 0);
+    EXPECT(by_name(1, DOS_STATUS, 0, "D:A"), DOS_FILE_LOCKED, 0);
+    EXPECT(by_name(1, DOS_DELETE, 0, "D:A"), DOS_FILE_LOCKED, 0);
+    EXPECT(by_name(1, DOS_UNLOCK, 0, "D:A"), DOS_SUCCESS, 0);
+    EXPECT(by_name(1, DOS_STATUS, 0, "D:A"), DOS_SUCCESS, 0);
+    image[359 * 128 + 3] ^= 1;
+    EXPECT(by_name(1, DOS_DELETE, 0, "D:A"), DOS_BAD_TABLE, 0);
+}
+
+/* Sector calls and showing. */
+static void sectors(void)
+{
+    uint8_t block[DOS_SECTOR_BYTES];
+    uint64_t shown;
+
+    fresh();
+    make("D:A", 126);
+    EXPECT(dos_sector(image, DOS_IMAGE_BYTES, DOS_SECTOR_DEVICE, DOS_SECTOR_UNIT, DOS_SECTOR_READ, 4, block, 128), DOS_SUCCESS, 128);
+    HOLDS(memcmp(block, sector(4), 128) == 0);
+    EXPECT(dos_sector(image, DOS_IMAGE_BYTES, DOS_SECTOR_DEVICE, DOS_SECTOR_UNIT, DOS_SECTOR_WRITE, 720, block, 128), DOS_SUCCESS, 128);
+    HOLDS(memcmp(block, sector(720), 128) == 0);
+    EXPECT(dos_sector(image, DOS_IMAGE_BYTES, DOS_SECTOR_DEVICE, DOS_SECTOR_UNIT, DOS_SECTOR_PUT, 1, block, 128), DOS_SUCCESS, 128);
+    HOLDS(memcmp(block, sector(1), 128) == 0);
+    remember();
+    EXPECT(dos_sector(image, 0, DOS_SECTOR_DEVICE, DOS_SECTOR_UNIT, DOS_SECTOR_READ, 4, block, 128), DOS_BAD_IMAGE, 0);
+    EXPECT(dos_sector(image, DOS_IMAGE_BYTES, 0x32, DOS_SECTOR_UNIT, DOS_SECTOR_READ, 4, block, 128), DOS_NO_DEVICE, 0);
+    EXPECT(dos_sector(image, DOS_IMAGE_BYTES, DOS_SECTOR_DEVICE, 2, DOS_SECTOR_READ, 4, block, 128), DOS_NO_DEVICE, 0);
+    EXPECT(dos_sector(image, DOS_IMAGE_BYTES, DOS_SECTOR_DEVICE, DOS_SECTOR_UNIT, 0x53, 4, block, 128), DOS_BAD_REQUEST, 0);
+    EXPECT(dos_sector(image, DOS_IMAGE_BYTES, DOS_SECTOR_DEVICE, DOS_SECTOR_UNIT, DOS_SECTOR_READ, 0, block, 128), DOS_BAD_REQUEST, 0);
+    EXPECT(dos_sector(image, DOS_IMAGE_BYTES, DOS_SECTOR_DEVICE, DOS_SECTOR_UNIT, DOS_SECTOR_WRITE, 721, block, 128), DOS_BAD_REQUEST, 0);
+    EXPECT(dos_sector(image, DOS_IMAGE_BYTES, DOS_SECTOR_DEVICE, DOS_SECTOR_UNIT, DOS_SECTOR_WRITE, 4, block, 127), DOS_BAD_LENGTH, 0);
+    HOLDS(unchanged());
+
+    shown = dos_show(image, DOS_IMAGE_BYTES, 0, 5);
+    HOLDS(dos_shown(shown) && dos_shown_offset(shown) == 4 * 128 && dos_shown_length(shown) == 1);
+    shown = dos_show(image, DOS_IMAGE_BYTES, 0, 719);
+    HOLDS(dos_shown(shown) && dos_shown_offset(shown) == 718 * 128 && dos_shown_length(shown) == 0);
+    HOLDS(dos_show(image, DOS_IMAGE_BYTES, 1, 5) == 0 && dos_show(image, DOS_IMAGE_BYTES, 64, 5) == 0);
+    HOLDS(dos_show(image, DOS_IMAGE_BYTES, 0, 360) == 0 && dos_show(image, 92159, 0, 5) == 0);
+}
+
+/* The thin calls on one channel's five words. */
+static void thin(void)
+{
+    uint16_t reader[DOS_CHANNEL_WORDS] = {DOS_KIND_READING, 0, 0, 0, 3};
+    uint16_t writer[DOS_CHANNEL_WORDS];
+    uint16_t closed[DOS_CHANNEL_WORDS] = {DOS_KIND_CLOSED, 0, 0, 0, 0};
+    uint8_t out[300];
+
+    fresh();
+    EXPECT(by_name(0, DOS_OPEN, DOS_WRITE, "D:A"), DOS_SUCCESS, 0);
+    memcpy(writer, table, sizeof writer);
+    EXPECT(dos_thin_put(image, DOS_IMAGE_BYTES, writer, 5, buffer, 300), DOS_SUCCESS, 300);
+    HOLDS(writer[DOS_WORD_KIND] == DOS_KIND_WRITING && writer[DOS_WORD_SECTOR] == 6);
+    EXPECT(dos_thin_get(image, DOS_IMAGE_BYTES, reader, 5, out, 10), DOS_SUCCESS, 10);
+    EXPECT(dos_thin_get(image, DOS_IMAGE_BYTES, reader, 5, out + 10, 290), DOS_SUCCESS, 290);
+    HOLDS(memcmp(out, buffer, 300) == 0);
+    HOLDS(reader[DOS_WORD_SECTOR] == 6 && reader[DOS_WORD_OFFSET] == 50 && reader[DOS_WORD_LEFT] == 0);
+    EXPECT(dos_thin_get(image, DOS_IMAGE_BYTES, reader, 5, out, 1), DOS_END_OF_FILE, 0);
+    EXPECT(dos_thin_get(image, DOS_IMAGE_BYTES, writer, 5, out, 1), DOS_WRITE_ONLY, 0);
+    EXPECT(dos_thin_put(image, DOS_IMAGE_BYTES, reader, 5, buffer, 1), DOS_READ_ONLY, 0);
+    EXPECT(dos_thin_get(image, DOS_IMAGE_BYTES, closed, 5, out, 1), DOS_CHANNEL_CLOSED, 0);
+    EXPECT(dos_thin_put(image, DOS_IMAGE_BYTES, closed, 5, buffer, 1), DOS_CHANNEL_CLOSED, 0);
+    EXPECT(dos_thin_get(image, 92159, reader, 5, out, 1), DOS_BAD_IMAGE, 0);
+    EXPECT(dos_thin_put(image, 92159, writer, 5, buffer, 1), DOS_BAD_IMAGE, 0);
+    EXPECT(dos_thin_get(image, DOS_IMAGE_BYTES, reader, 4, out, 1), DOS_BAD_ARGUMENT, 0);
+    EXPECT(dos_thin_put(image, DOS_IMAGE_BYTES, writer, 6, buffer, 1), DOS_BAD_ARGUMENT, 0);
+    closed[DOS_WORD_KIND] = 3;
+    EXPECT(dos_thin_get(image, DOS_IMAGE_BYTES, closed, 5, out, 1), DOS_BAD_ARGUMENT, 0);
+}
+
+/* NULL with length 0, in every place that takes a pointer. */
+static void nothing_lent(void)
+{
+    uint16_t channel[DOS_CHANNEL_WORDS] = {DOS_KIND_READING, 0, 0, 0, 1};
+
+    fresh();
+    make("D:A", 1);
+    EXPECT(by_name(1, DOS_OPEN, DOS_READ, "D:A"), DOS_SUCCESS, 0);
+    EXPECT(by_buffer(1, DOS_GET, NULL, 0), DOS_SUCCESS, 0);
+    EXPECT(by_name(2, DOS_OPEN, DOS_WRITE, "D:B"), DOS_SUCCESS, 0);
+    EXPECT(by_buffer(2, DOS_PUT, NULL, 0), DOS_SUCCESS, 0);
+    EXPECT(by_buffer(0, DOS_STATUS, NULL, 0), DOS_BAD_DEVICE, 0);
+    EXPECT(by_buffer(0, DOS_RENAME, NULL, 0), DOS_BAD_DEVICE, 0);
+    EXPECT(by_buffer(0, DOS_FORMAT, NULL, 0), DOS_BAD_DEVICE, 0);
+    EXPECT(dos_cio(image, DOS_IMAGE_BYTES, NULL, 0, 0, DOS_GET, 0, NULL, 0, NULL, 0), DOS_BAD_ARGUMENT, 0);
+    EXPECT(dos_cio(NULL, 0, table, DOS_TABLE_WORDS, 0, DOS_GET, 0, NULL, 0, NULL, 0), DOS_BAD_IMAGE, 0);
+    EXPECT(dos_recover(NULL, 0, 0), DOS_BAD_IMAGE, 0);
+    EXPECT(dos_sector(NULL, 0, DOS_SECTOR_DEVICE, 1, DOS_SECTOR_READ, 1, NULL, 0), DOS_BAD_IMAGE, 0);
+    EXPECT(dos_sector(image, DOS_IMAGE_BYTES, DOS_SECTOR_DEVICE, 1, DOS_SECTOR_READ, 1, NULL, 0), DOS_BAD_LENGTH, 0);
+    HOLDS(dos_show(NULL, 0, 0, 4) == 0);
+    EXPECT(dos_thin_get(image, DOS_IMAGE_BYTES, channel, 5, NULL, 0), DOS_SUCCESS, 0);
+    EXPECT(dos_thin_get(NULL, 0, channel, 5, NULL, 0), DOS_BAD_IMAGE, 0);
+    EXPECT(dos_thin_get(image, DOS_IMAGE_BYTES, NULL, 0, NULL, 0), DOS_BAD_ARGUMENT, 0);
+    EXPECT(dos_thin_put(image, DOS_IMAGE_BYTES, table + 10, 5, NULL, 0), DOS_SUCCESS, 0);
+    EXPECT(dos_thin_put(NULL, 0, NULL, 0, NULL, 0), DOS_BAD_ARGUMENT, 0);
+    EXPECT(dos_name(NULL, 0, buffer, DOS_NAME_BYTES), DOS_BAD_DEVICE, 0);
+    EXPECT(dos_name(NULL, 0, NULL, 0), DOS_BAD_ARGUMENT, 0);
+}
+
+int main(void)
+{
+    size_t i;
+
+    for (i = 0; i < sizeof buffer; i++)
+        buffer[i] = (uint8_t)(i * 7 + i / 251);
+    files();
+    recovery();
+    names();
+    refusals();
+    sectors();
+    thin();
+    nothing_lent();
+    puts(failures ? "failed" : "ok");
+    return failures != 0;
+}
