@@ -1,5 +1,9 @@
 // The library as C calls it: every function here is exported under its own name. A slice arrives as a pointer and a length.
+mod direct;
+
 use calls::cio::cio;
+use direct::get_direct;
+use direct::put_direct;
 use layout::Channel;
 use layout::Name;
 use layout::status::SUCCESS;
@@ -47,6 +51,13 @@ pub extern "C" fn dos_cio(
 {
     if !is_table(table) {
         return MALFORMED;
+    }
+    let direct = (image.len() == 92160) & (channel < 8);
+    if direct & (command == 7) {
+        return get_direct(image, table, channel, buffer);
+    }
+    if direct & (command == 11) {
+        return put_direct(image, table, channel, buffer);
     }
     let c = Block {
         channel,

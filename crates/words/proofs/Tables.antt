@@ -11,13 +11,15 @@ use lib.Dec.{eqb}
 use lib.ListN.{List·getD-eq-default, length, getD, take, drop, length-append, length-drop}
 use lib.Seq.{length-take-le, take-all, drop-append-add, getD-take, getD-drop, drop-drop, take-add, ext-getD, take-at}
 use borrow.Author.Tests.{eqb-true, eq-eqb}
+use Rattle.layout.specs.declared.State.{State}
 use Rattle.layout.specs.declared.State.the-variants.{Closed}
 use Rattle.layout.specs.declared.Table.{Table}
 use Rattle.layout.specs.Basics.{allBelow}
-use Rattle.layout.specs.Channels.{channel, stateOf}
+use Rattle.layout.specs.Channels.{channel, stateOf, withState}
+use Rattle.layout.proofs.Channels.{state-same, state-other}
 use Rattle.layout.proofs.Logic.{and-left, and-right, and-both}
 use Rattle.layout.proofs.Search.{all-at, all-of}
-use Rattle.words.specs.Words.{inForce, stateIn, recordAfter, recordAt, kindInForce, isTable, channelsFrom, tableOf, recordsAfter, wordsAfter, withRecord}
+use Rattle.words.specs.Words.{inForce, isRecord, stateIn, recordAfter, recordAt, kindInForce, isTable, channelsFrom, tableOf, recordsAfter, wordsAfter, withRecord}
 use Rattle.words.proofs.Records.{record-keeps, record-says, record-five, kind-after, leftOf, left-word}
 
 -- a table has forty words
@@ -41,6 +43,10 @@ unfolding channelsFrom
 channels-length ws zero c = refl
 channels-length ws (suc n) c = ap suc (channels-length ws n (c + 1))
 
+table-eight : (ws : List ℕ) → length (tableOf ws .channels) ≡ 8
+unfolding tableOf
+table-eight ws = channels-length ws 8 0
+
 table-past : (ws : List ℕ) (i : ℕ) → 8 ≤ i → stateOf (tableOf ws) i ≡ Closed
 unfolding stateOf tableOf
 table-past ws i h = let m = channels-length ws 8 0 in ap (λ c. c .state) (List·getD-eq-default (channelsFrom ws 8 0) (channel Closed) {n = i} (omega arith))
@@ -63,6 +69,19 @@ left-small ws n small c = go (decLt c 8)
 kind-at : (ws : List ℕ) (i : ℕ) → kindInForce ws i ≡ inForce (getD (recordAt ws i) 0 0)
 unfolding kindInForce recordAt
 kind-at ws i = rw (getD-take 5 (drop (5 * i) ws) 0 0 (omega arith), getD-drop (5 * i) ws 0 0, add-zero (5 * i))
+
+-- the record of each channel of a table is one: five words, its kind in force
+five-at : (ws : List ℕ) (c : ℕ) → length ws ≡ 40 → c < 8 → length (recordAt ws c) ≡ 5
+unfolding recordAt
+five-at ws c h l = length-take-le 5 (drop (5 * c) ws) (rw (length-drop, h) (omega arith))
+
+force-at : (ws : List ℕ) (c : ℕ) → isTable ws ≡ true → c < 8 → inForce (getD (recordAt ws c) 0 0) ≡ true
+unfolding isTable
+force-at ws c e l = sym (kind-at ws c) ∙ all-at (kindInForce ws) 8 (and-right (eqb (length ws) 40) (allBelow 8 (kindInForce ws)) e) c l
+
+pub record-in : (ws : List ℕ) (c : ℕ) → isTable ws ≡ true → c < 8 → isRecord (recordAt ws c) ≡ true
+unfolding isRecord
+record-in ws c e l = and-both _ _ (eq-eqb (length (recordAt ws c)) 5 (five-at ws c (table-length ws e) l)) (force-at ws c e l)
 
 -- a part of the table is the records in it, one after the other
 part-next : (ws : List ℕ) (n c : ℕ) → take (5 * suc n) (drop (5 * c) ws) ≡ recordAt ws c ++ take (5 * n) (drop (5 * (c + 1)) ws)
@@ -113,8 +132,7 @@ module _ (ws : List ℕ) (t : Table) where
 
   -- the record of each channel after a call
   after-five : (c : ℕ) → length ws ≡ 40 → c < 8 → length (recordAfter (recordAt ws c) (stateOf t c)) ≡ 5
-  unfolding recordAt
-  after-five c h l = record-five (recordAt ws c) (stateOf t c) (length-take-le 5 (drop (5 * c) ws) (rw (length-drop, h) (omega arith)))
+  after-five c h l = record-five (recordAt ws c) (stateOf t c) (five-at ws c h l)
 
   records-at : (n c i : ℕ) → length ws ≡ 40 → c + n ≤ 8 → i < n → recordAt (recordsAfter ws t n c) i ≡ recordAfter (recordAt ws (c + i)) (stateOf t (c + i))
   unfolding recordAt recordsAfter
@@ -155,4 +173,11 @@ module _ (ws : List ℕ) (t : Table) where
       kinds : (i : ℕ) → i < 8 → kindInForce (wordsAfter ws t) i ≡ true
       kinds i l =
           kind-at (wordsAfter ws t) i ∙ rw (records-at 8 0 i h (omega arith) l, zero-add i)
-          (kind-after (recordAt ws i) (stateOf t i) (sym (kind-at ws i) ∙ all-at (kindInForce ws) 8 (and-right (eqb (length ws) 40) (allBelow 8 (kindInForce ws)) e) i l))
+          (kind-after (recordAt ws i) (stateOf t i) (force-at ws i e l))
+
+-- another state of one channel of the table that the words say replaces its record
+pub words-with : (ws : List ℕ) (c : ℕ) (st : State) → length ws ≡ 40 → c < 8 → wordsAfter ws (withState (tableOf ws) c st) ≡ withRecord ws c (recordAfter (recordAt ws c) st)
+words-with ws c st h l =
+    let t = tableOf ws in
+    words-one ws (withState t c st) c h l (λ i _ n. state-other t c st i n)
+    ∙ ap (λ x. withRecord ws c (recordAfter (recordAt ws c) x)) (state-same t c st (let e = table-eight ws in omega arith))
