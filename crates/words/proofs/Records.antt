@@ -1,7 +1,8 @@
 -- Records of five words: written, and read back after a call.
-use mathlib.Core.Bool.{Bool, true, false, _&&_}
+use mathlib.Core.Bool.{Bool, true, false, _&&_, _||_, and-true, and-comm}
 use mathlib.Core.List.{List, [], _∷_}
-use mathlib.Core.Path.{_≡_, refl, sym, _∙_}
+use mathlib.Core.Logic.{_≢_}
+use mathlib.Core.Path.{_≡_, refl, sym, ap, _∙_}
 use Prim.Native.Nat.{ℕ, _≤_}
 use native.Mathlib.Omega.{arith}
 use lib.Dec.{eqb}
@@ -30,18 +31,10 @@ pub five-set : (ws v : List ℕ) → length ws ≡ 5 → length v ≡ 5
     → set (set (set (set (set ws 0 (getD v 0 0)) 1 (getD v 1 0)) 2 (getD v 2 0)) 3 (getD v 3 0)) 4 (getD v 4 0) ≡ v
 five-set ws v h k = rw (← five ws h) (five v k)
 
--- all five, and all eight, as the code joins them
-and-yes : (a : Bool) → (a && true) ≡ a
-and-yes true = refl
-and-yes false = refl
-
-pub all-five : (p : ℕ → Bool) → (p 4 && (p 3 && (p 2 && (p 1 && p 0)))) ≡ allBelow 5 p
-unfolding allBelow
-all-five p = rw (and-yes (p 0))
-
+-- all eight, as the code joins them
 pub all-eight : (p : ℕ → Bool) → (p 7 && (p 6 && (p 5 && (p 4 && (p 3 && (p 2 && (p 1 && p 0))))))) ≡ allBelow 8 p
 unfolding allBelow
-all-eight p = rw (and-yes (p 0))
+all-eight p = rw (and-true (p 0))
 
 -- the words of a state are five, and say that state
 pub words-five : (st : State) → length (wordsOf st) ≡ 5
@@ -72,6 +65,60 @@ is-same a = all-of (sameWord (wordsOf a) (wordsOf a)) 5 (λ j _. eq-eqb (getD (w
 pub record-keeps : (ws : List ℕ) (st : State) → stateIn ws ≡ st → recordAfter ws st ≡ ws
 unfolding recordAfter
 record-keeps ws st e = rw (e, is-same st)
+
+-- states of different kinds test as different
+kinds-differ : (a b : State) → getD (wordsOf a) 0 0 ≢ getD (wordsOf b) 0 0 → sameState a b ≡ false
+unfolding sameState sameWord
+kinds-differ a b n = go (sameState a b) refl
+  where
+    go : (q : Bool) → sameState a b ≡ q → sameState a b ≡ false
+    go true e = absurd (n (eqb-true (getD (wordsOf a) 0 0) (getD (wordsOf b) 0 0) (all-at (sameWord (wordsOf a) (wordsOf b)) 5 e 0 (omega arith))))
+    go false e = e
+
+-- two states that write are the same where slot and last sector are
+same-writing : (x y s p : ℕ) → sameState (Writing x y) (Writing s p) ≡ (eqb x s && eqb y p)
+unfolding sameState sameWord wordsOf allBelow
+same-writing x y s p = rw (and-true (eqb x s)) (and-comm (eqb y p) (eqb x s))
+
+-- the state that words say, by the tests whether their kind is reading and whether it is writing
+abbrev stateBy : List ℕ → Bool → Bool → State
+stateBy ws a b = if a (Reading (getD ws 1 0) (getD ws 2 0) (getD ws 3 0) (getD ws 4 0)) (if b (Writing (getD ws 1 0) (getD ws 2 0)) Closed)
+
+-- the record that a call leaves closed: written where it was reading or writing
+pub after-closed : (ws : List ℕ) (opened : Bool) → (eqb (getD ws 0 0) 1 || eqb (getD ws 0 0) 2) ≡ opened → recordAfter ws Closed ≡ if opened (wordsOf Closed) ws
+unfolding recordAfter stateIn wordsOf
+after-closed ws opened e = rw (← e) (go (eqb (getD ws 0 0) 1) (eqb (getD ws 0 0) 2))
+  where
+    go : (a b : Bool) → if (sameState (stateBy ws a b) Closed) ws (wordsOf Closed) ≡ if (a || b) (wordsOf Closed) ws
+    go true b = rw (kinds-differ (stateBy ws true b) Closed (λ e. omega arith))
+    go false true = rw (kinds-differ (stateBy ws false true) Closed (λ e. omega arith))
+    go false false = rw (is-same Closed)
+
+-- reading: the words of that state, which are those before where the state is the same
+pub after-reading : (ws : List ℕ) (s k o l : ℕ) → length ws ≡ 5 → recordAfter ws (Reading s k o l) ≡ wordsOf (Reading s k o l)
+unfolding recordAfter stateIn wordsOf
+after-reading ws s k o l h = go (eqb (getD ws 0 0) 1) (eqb (getD ws 0 0) 2) refl
+  where
+    same : getD ws 0 0 ≡ 1 → (q : Bool) → sameState (stateBy ws true true) (Reading s k o l) ≡ q → if q ws (wordsOf (Reading s k o l)) ≡ wordsOf (Reading s k o l)
+    same n true e = sym (rw n at (five ws h)) ∙ ap wordsOf (same-is (stateBy ws true true) (Reading s k o l) e)
+    same n false e = refl
+
+    go : (a b : Bool) → eqb (getD ws 0 0) 1 ≡ a → if (sameState (stateBy ws a b) (Reading s k o l)) ws (wordsOf (Reading s k o l)) ≡ wordsOf (Reading s k o l)
+    go true b e = same (eqb-true (getD ws 0 0) 1 e) (sameState (stateBy ws true b) (Reading s k o l)) refl
+    go false true e = rw (kinds-differ (stateBy ws false true) (Reading s k o l) (λ e. omega arith))
+    go false false e = rw (kinds-differ Closed (Reading s k o l) (λ e. omega arith))
+
+-- writing: written where kind, slot or last sector is another
+pub after-writing : (ws : List ℕ) (s p : ℕ) (same : Bool) → (eqb (getD ws 0 0) 2 && eqb (getD ws 1 0) s && eqb (getD ws 2 0) p) ≡ same → recordAfter ws (Writing s p) ≡ if same ws (wordsOf (Writing s p))
+unfolding recordAfter stateIn wordsOf
+after-writing ws s p same e = rw (← e) (go (eqb (getD ws 0 0) 1) (eqb (getD ws 0 0) 2) refl refl)
+  where
+    go : (a b : Bool) → eqb (getD ws 0 0) 1 ≡ a → eqb (getD ws 0 0) 2 ≡ b
+        → if (sameState (stateBy ws a b) (Writing s p)) ws (wordsOf (Writing s p)) ≡ if (b && eqb (getD ws 1 0) s && eqb (getD ws 2 0) p) ws (wordsOf (Writing s p))
+    go true true e f = let m = eqb-true (getD ws 0 0) 1 e in let n = eqb-true (getD ws 0 0) 2 f in absurd (omega arith)
+    go true false e f = rw (kinds-differ (stateBy ws true false) (Writing s p) (λ e. omega arith))
+    go false true e f = rw (same-writing (getD ws 1 0) (getD ws 2 0) s p)
+    go false false e f = rw (kinds-differ Closed (Writing s p) (λ e. omega arith))
 
 -- the record after a call says the state that the call leaves, and has five words
 module _ (ws : List ℕ) (st : State) where
@@ -125,7 +172,7 @@ pub left-word : (ws : List ℕ) → leftOf (stateIn ws) ≤ getD ws 4 0
 unfolding stateIn
 left-word ws = go (eqb (getD ws 0 0) 1) (eqb (getD ws 0 0) 2)
   where
-    go : (a b : Bool) → leftOf (if a (Reading (getD ws 1 0) (getD ws 2 0) (getD ws 3 0) (getD ws 4 0)) (if b (Writing (getD ws 1 0) (getD ws 2 0)) Closed)) ≤ getD ws 4 0
+    go : (a b : Bool) → leftOf (stateBy ws a b) ≤ getD ws 4 0
     go true b = omega arith
     go false true = omega arith
     go false false = omega arith

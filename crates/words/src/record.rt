@@ -2,7 +2,7 @@
 use layout::State;
 ghost use mathlib.Core.Path.{_≡_};
 ghost use lib.ListN.{length};
-ghost use Rattle.words.specs.Words.{inForce, isRecord, stateIn, wordsOf, sameState, recordAfter};
+ghost use Rattle.words.specs.Words.{inForce, isRecord, stateIn, recordAfter};
 
 const CLOSED: u16 = 0;
 
@@ -50,31 +50,6 @@ pub fn state_in(words: &[u16]) -> State
     State::Closed
 }
 
-// The five words of a state.
-fn words_of(st: State) -> [u16; 5]
-    ensures { λ r. ⌜ r ≡ wordsOf st ⌝ }
-{
-    match st {
-        State::Closed => [CLOSED, 0, 0, 0, 0],
-        State::Reading {
-            slot,
-            sector,
-            offset,
-            left,
-        } => [READING, slot, sector, offset, left],
-        State::Writing { slot, last } => [WRITING, slot, last, 0, 0],
-    }
-}
-
-// Two states are the same.
-fn same_state(a: State, b: State) -> bool
-    ensures { λ r. ⌜ r ≡ sameState a b ⌝ }
-{
-    let v = words_of(a);
-    let w = words_of(b);
-    (v[4] == w[4]) & ((v[3] == w[3]) & ((v[2] == w[2]) & ((v[1] == w[1]) & (v[0] == w[0]))))
-}
-
 // All five words written.
 fn put_words(words: &mut [u16], five: [u16; 5])
     requires { ⌜ length (now words) ≡ 5 ⌝ }
@@ -87,12 +62,31 @@ fn put_words(words: &mut [u16], five: [u16; 5])
     words[4] = five[4];
 }
 
-// The words after a call that leaves this state: written only where it is another than before.
+// The words after a call that leaves this state: where they say it already, all five stay as they were. A state that reads
+// uses every word, so its words are written without a comparison: where they say it already, they are the same five.
 pub fn leave_state(words: &mut [u16], st: State)
     requires { ⌜ length (now words) ≡ 5 ⌝ }
     ensures { λ _. ⌜ now (words .exit) ≡ recordAfter (now (words .entry)) st ⌝ }
 {
-    if !same_state(state_in(words), st) {
-        put_words(words, words_of(st));
+    match st {
+        State::Closed => {
+            if (words[0] == READING) | (words[0] == WRITING) {
+                put_words(words, [CLOSED, 0, 0, 0, 0]);
+            }
+        }
+        State::Reading {
+            slot,
+            sector,
+            offset,
+            left,
+        } => {
+            put_words(words, [READING, slot, sector, offset, left]);
+        }
+        State::Writing { slot, last } => {
+            let same = (words[0] == WRITING) & (words[1] == slot) & (words[2] == last);
+            if !same {
+                put_words(words, [WRITING, slot, last, 0, 0]);
+            }
+        }
     }
 }

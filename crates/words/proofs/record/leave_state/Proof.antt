@@ -1,47 +1,92 @@
-use mathlib.Core.Path.{_∙_}
-use borrow.Author.Tests.{not-true, not-false}
+use mathlib.Core.Bool.{true, false}
+use mathlib.Core.Path.{sym, _∙_}
 use borrow.Author.Needs.{needs}
-use Rattle.words.specs.Words.{recordAfter}
+use borrow.Author.Tests.{not-true, not-false}
+use Rattle.words.proofs.Records.{after-closed, after-reading, after-writing}
+use Rattle.words.specs.Words.{wordsOf}
 use Rattle.words.proofs.record.leave_state.Statement.{statement}
 use Rattle.words.proofs.record.leave_state.Tie as tie
 
-state-in-requires : tie.Need-state-in-requires
-state-in-requires c κs = search needs
+enum-told : tie.Need-enum-told
+enum-told c = search needs
 
-same-state-requires : tie.Need-same-state-requires
-same-state-requires c κs = search needs
+slice-read-if1 : tie.Need-slice-read-if1
+slice-read-if1 c = search needs
 
-words-of-requires : tie.Need-words-of-requires
-words-of-requires c κs = search needs
+slice-read-if1-2 : tie.Need-slice-read-if1-2
+slice-read-if1-2 c = search needs
 
 put-words-requires : tie.Need-put-words-requires
 put-words-requires c κs = search needs
+
+enum-known-st : tie.Need-enum-known-st
+enum-known-st c = search needs
+
+put-words-requires-2 : tie.Need-put-words-requires-2
+put-words-requires-2 c κs = search needs
+
+enum-known-st-2 : tie.Need-enum-known-st-2
+enum-known-st-2 c = search needs
+
+slice-read-same : tie.Need-slice-read-same
+slice-read-same c = search needs
+
+slice-read-same-2 : tie.Need-slice-read-same-2
+slice-read-same-2 c = search needs
+
+slice-read-same-3 : tie.Need-slice-read-same-3
+slice-read-same-3 c = search needs
+
+put-words-requires-3 : tie.Need-put-words-requires-3
+put-words-requires-3 c κs = search needs
 
 same-length : tie.Need-same-length
 same-length c = search needs
 
 returns : tie.Need-returns
-unfolding recordAfter
-returns c =
-    let same-state = c .before .before .before .before .before .before .same-state in
-    rw (← c .before .before .before .before .before .before .before .state-in .ensures, ← same-state .ensures, not-true (same-state .result) (c .before .before .before .before .before .if1 .taken)) (c .before .before .put-words .ensures ∙ c .before .before .before .words-of .ensures)
+unfolding wordsOf
+returns c = rw (c .before .before .before .before .before .before .before .enum-told .given .1) (c .before .before .put-words .ensures ∙ sym (after-closed _ true (c .before .before .before .before .if1 .taken)))
+
+returns-2 : tie.Need-returns-2
+returns-2 c = rw (c .before .before .before .enum-told .given .1) (sym (after-closed _ false (c .if1 .left)))
 
 same-length-2 : tie.Need-same-length-2
 same-length-2 c = search needs
 
-returns-2 : tie.Need-returns-2
-unfolding recordAfter
-returns-2 c = rw (← c .before .before .state-in .ensures, ← c .before .same-state .ensures, not-false (c .before .same-state .result) (c .if1 .left))
+returns-3 : tie.Need-returns-3
+unfolding wordsOf
+returns-3 c = rw (c .before .before .before .before .before .st .given .1) (c .before .before .put-words2 .ensures ∙ sym (after-reading _ _ _ _ _ (c .before .before .before .before .before .before .before .before .pre)))
+
+same-length-3 : tie.Need-same-length-3
+same-length-3 c = search needs
+
+returns-4 : tie.Need-returns-4
+unfolding wordsOf
+returns-4 c = rw (c .before .before .before .before .before .before .before .before .before .st2 .given .1) (c .before .before .put-words3 .ensures ∙ sym (after-writing _ _ _ false (not-true _ (c .before .before .before .before .if2 .taken))))
+
+returns-5 : tie.Need-returns-5
+returns-5 c = rw (c .before .before .before .before .before .st2 .given .1) (sym (after-writing _ _ _ true (not-false _ (c .if2 .left))))
 
 pub leave-state-spec : {M : Type 1} → statement M
 leave-state-spec =
     tie.close
     (tie.spec
-    state-in-requires
-    same-state-requires
-    words-of-requires
+    enum-told
+    slice-read-if1
+    slice-read-if1-2
     put-words-requires
+    enum-known-st
+    put-words-requires-2
+    enum-known-st-2
+    slice-read-same
+    slice-read-same-2
+    slice-read-same-3
+    put-words-requires-3
     same-length
     returns
+    returns-2
     same-length-2
-    returns-2)
+    returns-3
+    same-length-3
+    returns-4
+    returns-5)
