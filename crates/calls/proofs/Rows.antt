@@ -10,13 +10,14 @@ use Rattle.layout.specs.Basics.{check}
 use Rattle.layout.specs.Image.{Disk, Geometry}
 use Rattle.layout.specs.Status.{badCommand, notServed}
 use Rattle.layout.proofs.Check.{by-check, by-named, by-found}
+use Rattle.rules.specs.declared.Answer.{Answer}
 use Rattle.rules.specs.declared.Block.{Block}
-use Rattle.rules.specs.Commands.{Effect, refused, putAt, openCall, closeCall, statusCall, renameCall, deleteCall, lockCall, unlockCall, formatCall}
+use Rattle.rules.specs.Commands.{Effect, answer, refused, putAt, openCall, closeCall, statusCall, renameCall, deleteCall, lockCall, unlockCall, formatCall}
 use Rattle.rules.specs.Cio.{command}
 
 -- a number that the code's match has in none of its rows
 abbrev pub Unlisted : ℕ → Type 0
-Unlisted n = ((((((((Unit {0} × (n ≢ 3)) × (n ≢ 11)) × (n ≢ 12)) × (n ≢ 13)) × (n ≢ 32)) × (n ≢ 33)) × (n ≢ 35)) × (n ≢ 36)) × (n ≢ 254)
+Unlisted n = (((((((Unit {0} × (n ≢ 3)) × (n ≢ 12)) × (n ≢ 13)) × (n ≢ 32)) × (n ≢ 33)) × (n ≢ 35)) × (n ≢ 36)) × (n ≢ 254)
 
 module _ (g : Geometry) (d : Disk) (t : Table) (c : Block) (text b : List ℕ) where
   pub is-open : c .command ≡ 3 → command g d t c text b ≡ openCall g d t c text
@@ -74,13 +75,13 @@ module _ (g : Geometry) (d : Disk) (t : Table) (c : Block) (text b : List ℕ) w
       )
 
   -- and any other that is in no row
-  pub is-other : Unlisted (c .command) → 3 ≤ c .command → command g d t c text b ≡ refused notServed d t
+  pub is-other : c .command ≢ 11 → Unlisted (c .command) → 3 ≤ c .command → command g d t c text b ≡ refused notServed d t
   unfolding command check
-  is-other r h =
+  is-other p r h =
       let n = c .command in
       rw (
-        ne-eqb n 3 (r .0 .0 .0 .0 .0 .0 .0 .0 .1),
-        ne-eqb n 11 (r .0 .0 .0 .0 .0 .0 .0 .1),
+        ne-eqb n 3 (r .0 .0 .0 .0 .0 .0 .0 .1),
+        ne-eqb n 11 p,
         ne-eqb n 12 (r .0 .0 .0 .0 .0 .0 .1),
         ne-eqb n 13 (r .0 .0 .0 .0 .0 .1),
         ne-eqb n 32 (r .0 .0 .0 .0 .1),
@@ -90,6 +91,10 @@ module _ (g : Geometry) (d : Disk) (t : Table) (c : Block) (text b : List ℕ) w
         ne-eqb n 254 (r .1),
         le-ltb n 3 h,
       )
+
+  -- the answer and the disk of the row are those of the command
+  pub by-row : (e : Effect) → command g d t c text b ≡ e → (r : Answer) (f : Disk) → (r ≡ answer e) × (f ≡ e .disk) → (r ≡ answer (command g d t c text b)) × (f ≡ command g d t c text b .disk)
+  by-row e p r f q = rw p q
 
 module _ (g : Geometry) (d : Disk) (t : Table) (c : Block) (text : List ℕ) where
   -- 13 status leaves the disk
