@@ -3,16 +3,17 @@ use mathlib.Core.Bool.{Bool, true, false, Bool·beq}
 use mathlib.Core.List.{List, [], _∷_}
 use mathlib.Core.Logic.{_≢_}
 use mathlib.Core.Path.{_≡_, refl, sym, ap, _∙_}
-use Prim.Native.Nat.{ℕ, suc, _+_, _-_, _≤_, _<_}
+use Prim.Native.Nat.{ℕ, suc, zero, _+_, _-_, _≤_, _<_}
 use native.Mathlib.Nat.{sub-zero}
 use native.Mathlib.Omega.{arith}
 use lib.Dec.{eqb}
 use Rattle.layout.specs.Image.{Disk, Geometry}
 use Rattle.layout.specs.Volume.{dataSector, free, setFree, setUsed, freeBits, useBits}
 use Rattle.layout.specs.File.{next, fits, belongs, cleanFrom, sectorsFrom}
+use Rattle.files.specs.Marking.{DataFrom, Marking}
 use Rattle.layout.proofs.Logic.{and-left}
 use Rattle.layout.proofs.Data.{data-facts}
-use Rattle.layout.proofs.Chain.{fits-data}
+use Rattle.layout.proofs.Chain.{Walk, clean-walk, fits-data}
 use Rattle.layout.proofs.Map.{setFree-sector, setUsed-sector}
 
 module _ (g : Geometry) where
@@ -33,14 +34,6 @@ module _ (g : Geometry) where
     pub clean-fails : i < n → belongs g f d s k ≡ false → cleanFrom g f d s (n - i) k ≡ false
     unfolding cleanFrom
     clean-fails h e = let m : n - i ≡ suc (n - (i + 1)) = omega arith in rw (m, e, cleanFrom)
-
-    -- what passes belongs
-    pub clean-belongs : i < n → cleanFrom g f d s (n - i) k ≡ true → belongs g f d s k ≡ true
-    clean-belongs h e = go (belongs g f d s k) refl
-      where
-        go : (b : Bool) → belongs g f d s k ≡ b → b ≡ true
-        go true q = refl
-        go false q = sym (clean-fails h q) ∙ e
 
   -- the sectors from k on, with i of n passed
   sectors-end : (d : Disk) (n i k : ℕ) → n ≤ i → sectorsFrom g d (n - i) k ≡ []
@@ -65,34 +58,64 @@ pub uses : Marks setUsed useBits
 unfolding useBits
 uses = record { none = λ d. refl; one = λ k ks d. refl; sector = setUsed-sector }
 
--- the walk over a clean chain, at sector k of disk d with i of n sectors done: what is left, and that only sector 360 changed
-module _ (g : Geometry) (f : Bool) (op : Disk → ℕ → Disk) (all : List ℕ → Disk → Disk) where
-  pub record Marking (start : Disk) (s n a : ℕ) (d : Disk) (k i : ℕ) : Type 0 where
-    pub most : i ≤ n
-    pub clean : cleanFrom g f start s (n - i) k ≡ true
-    pub left : all (sectorsFrom g start n a) start ≡ all (sectorsFrom g start (n - i) k) d
-    pub rest : (x : ℕ) → x ≢ 360 → d x ≡ start x
+module _ (g : Geometry) where
+  -- a chain has only data sectors
+  walk-data : (d : Disk) (s n k : ℕ) → Walk g d s k (sectorsFrom g d n k) → DataFrom g d n k
+  unfolding sectorsFrom
+  walk-data d s zero k w = w
+  walk-data d s (suc n) k w = (fits-data g (d k) s k (w .1), walk-data d s n (next g (d k)) (w .2))
 
-module _ (g : Geometry) (f : Bool) (op : Disk → ℕ → Disk) (all : List ℕ → Disk → Disk) (laws : Marks op all) where
-  module _ {start : Disk} {s n a : ℕ} where
-    pub marking-holds : cleanFrom g f start s n a ≡ true → Marking g f op all start s n a start a 0
-    marking-holds e = record { most = omega arith; clean = rw sub-zero e; left = rw sub-zero; rest = λ x h. refl }
+  pub clean-data : (f : Bool) (d : Disk) (s n k : ℕ) → cleanFrom g f d s n k ≡ true → DataFrom g d n k
+  clean-data f d s n k e = walk-data d s n k (clean-walk g f d s n k e .0)
 
-    module _ {d : Disk} {k i : ℕ} (m : Marking g f op all start s n a d k i) where
-      pub marking-data : i < n → dataSector k ≡ true
-      marking-data h = belongs-data g f start s k (clean-belongs g f start s n i k h (m .clean))
+  -- the sector that is reached is a data sector, or 0
+  data-top : (d : Disk) (n k : ℕ) → DataFrom g d n k → k < 720
+  data-top d zero k e = omega arith
+  data-top d (suc n) k e = let t = data-facts k (e .0) in omega arith
 
-      pub marking-again : i < n → (k′ : ℕ) → k′ ≡ next g (d k) → (d′ : Disk) → d′ ≡ op d k → Marking g f op all start s n a d′ k′ (i + 1)
+  -- another disk that differs in sector 360 at most has the same sectors there
+  module _ (d d′ : Disk) (same : (x : ℕ) → x ≢ 360 → d′ x ≡ d x) where
+    data-frame : (n k : ℕ) → DataFrom g d n k → DataFrom g d′ n k
+    data-frame zero k e = e
+    data-frame (suc n) k e = (e .0, rw (same k (data-facts k (e .0) .table)) (data-frame n (next g (d k)) (e .1)))
+
+    sectors-frame : (n k : ℕ) → DataFrom g d n k → sectorsFrom g d′ n k ≡ sectorsFrom g d n k
+    unfolding sectorsFrom
+    sectors-frame zero k e = refl
+    sectors-frame (suc n) k e = rw (same k (data-facts k (e .0) .table), sectors-frame n (next g (d k)) (e .1))
+
+module _ (g : Geometry) {all : List ℕ → Disk → Disk} {start : Disk} {n a : ℕ} where
+  pub marking-holds : DataFrom g start n a → Marking g all start n a start a 0
+  marking-holds e = record { most = omega arith; rest = rw sub-zero e; left = rw sub-zero }
+
+  module _ {d : Disk} {k i : ℕ} (m : Marking g all start n a d k i) where
+    -- the rest that is not empty has a first sector
+    marking-parts : i < n → (dataSector k ≡ true) × DataFrom g d (n - (i + 1)) (next g (d k))
+    marking-parts h = let e : n - i ≡ suc (n - (i + 1)) = omega arith in rw e at (m .rest)
+
+    pub marking-data : i < n → dataSector k ≡ true
+    marking-data h = marking-parts h .0
+
+    pub marking-top : k < 720
+    marking-top = data-top g d (n - i) k (m .rest)
+
+    -- a walk over the rest goes on with this one
+    pub marking-on : (d′ : Disk) (k′ r : ℕ) → Marking g all d (n - i) k d′ k′ r → Marking g all start n a d′ k′ (i + r)
+    marking-on d′ k′ r m′ =
+        let e : n - i - r ≡ n - (i + r) = omega arith in
+        record { most = let t = m′ .most in omega arith; rest = rw e at (m′ .rest); left = m .left ∙ (rw e at (m′ .left)) }
+
+    module _ {op : Disk → ℕ → Disk} (laws : Marks op all) where
+      pub marking-again : i < n → (k′ : ℕ) → k′ ≡ next g (d k) → (d′ : Disk) → d′ ≡ op d k → Marking g all start n a d′ k′ (i + 1)
       marking-again h k′ p d′ q =
-          let t = data-facts k (marking-data h) in
-          let e : next g (d k) ≡ next g (start k) = ap (next g) (m .rest k (t .table)) in
-          rw (p ∙ e, q)
+          let rest = marking-parts h .1 in
+          rw (p, q)
           (record {
             most = omega arith;
-            clean = sym (clean-next g f start s n i k h (clean-belongs g f start s n i k h (m .clean))) ∙ m .clean;
-            left = m .left ∙ ap (λ ks. all ks d) (sectors-next g start n i k h) ∙ laws .one k (sectorsFrom g start (n - (i + 1)) (next g (start k))) d;
-            rest = λ x l. laws .sector d k x l ∙ m .rest x l;
+            rest = data-frame g d (op d k) (laws .sector d k) (n - (i + 1)) (next g (d k)) rest;
+            left = m .left ∙ ap (λ ks. all ks d) (sectors-next g d n i k h) ∙ laws .one k (sectorsFrom g d (n - (i + 1)) (next g (d k))) d
+                ∙ ap (λ ks. all ks (op d k)) (sym (sectors-frame g d (op d k) (laws .sector d k) (n - (i + 1)) (next g (d k)) rest));
           })
 
       pub marking-done : n ≤ i → d ≡ all (sectorsFrom g start n a) start
-      marking-done h = sym (m .left ∙ ap (λ ks. all ks d) (sectors-end g start n i k h) ∙ laws .none d)
+      marking-done h = sym (m .left ∙ ap (λ ks. all ks d) (sectors-end g d n i k h) ∙ laws .none d)

@@ -7,7 +7,7 @@ use image::slot::count;
 use image::slot::first;
 use volume::map::is_free;
 ghost use mathlib.Core.Path.{_≡_};
-ghost use Prim.Native.Nat.{_<_};
+ghost use Prim.Native.Nat.{_+_, _-_, _≤_, _<_};
 ghost use lib.ListN.{length};
 ghost use Rattle.layout.specs.Image.{single, view};
 ghost use Rattle.layout.specs.File.{fits, belongs, cleanFrom, cleanAs, clean, cleanFree};
@@ -34,7 +34,28 @@ fn belongs(image: &[u8], freed: bool, slot: u16, sector: u16) -> bool
     is_free(image, sector) == freed
 }
 
-// `n` steps meet only such sectors, and lead to next sector 0.
+// How many sectors from `start` on, at most `n`, pass that test and each lead to the sector after it on the disk.
+// The sector is a plain count and its link is only compared with it, so that no sector waits for the link before it.
+fn clean_run(image: &[u8], freed: bool, slot: u16, n: u16, start: u16) -> u16
+    requires { ⌜ length (now image) ≡ 92160 ⌝ }
+    ensures { λ r. ⌜ (r ≤ n) × (start + r < 65536)
+        × (cleanFrom single freed (view single (now (image .entry))) slot n start ≡ cleanFrom single freed (view single (now (image .entry))) slot (n - r) (start + r)) ⌝ }
+{
+    let mut j: u16 = 0;
+    while j < n {
+        let sector = start + j;
+        if !belongs(image, freed, slot, sector) {
+            return j;
+        }
+        if next(image, sector) != sector + 1 {
+            return j;
+        }
+        j += 1;
+    }
+    j
+}
+
+// `n` steps meet only such sectors, and lead to next sector 0. Where a link leads to the sector after it on the disk, as most do, `clean_run` walks on from there.
 fn clean_from(image: &[u8], freed: bool, slot: u16, n: u16, start: u16) -> bool
     requires { ⌜ length (now image) ≡ 92160 ⌝ }
     ensures { λ r. ⌜ r ≡ cleanFrom single freed (view single (now (image .entry))) slot n start ⌝ }
@@ -45,8 +66,15 @@ fn clean_from(image: &[u8], freed: bool, slot: u16, n: u16, start: u16) -> bool
         if !belongs(image, freed, slot, k) {
             return false;
         }
-        k = next(image, k);
+        let after = next(image, k);
         i += 1;
+        if after == k + 1 {
+            let run = clean_run(image, freed, slot, n - i, after);
+            k = after + run;
+            i += run;
+        } else {
+            k = after;
+        }
     }
     k == 0
 }

@@ -10,11 +10,30 @@ use volume::map::set_free_count;
 use volume::map::set_used;
 ghost use mathlib.Core.Bool.{true, false};
 ghost use mathlib.Core.Path.{_≡_};
-ghost use Prim.Native.Nat.{_<_};
+ghost use Prim.Native.Nat.{_+_, _<_};
 ghost use lib.ListN.{length};
 ghost use Rattle.layout.specs.Image.{single, view};
 ghost use Rattle.layout.specs.Volume.{freeBits, useBits, useAll};
 ghost use Rattle.layout.specs.File.{cleanFrom, clean, cleanFree, sectorsFrom, chain, freeChain, delete, restore};
+ghost use Rattle.files.specs.Marking.{DataFrom, Marking};
+
+// The bits of sectors from `start` on set, at most `n` of them, as long as each leads to the sector after it on the disk; how many.
+// As in the test of a chain the sector is a plain count, so that none waits for the link before it.
+fn free_run(image: &mut [u8], n: u16, start: u16) -> u16
+    requires { ⌜ (length (now image) ≡ 92160) × DataFrom single (view single (now image)) n start ⌝ }
+    ensures { λ r. ⌜ Marking single freeBits (view single (now (image .entry))) n start (view single (now (image .exit))) (start + r) r ⌝ }
+{
+    let mut j: u16 = 0;
+    while j < n {
+        let sector = start + j;
+        if next(image, sector) != sector + 1 {
+            return j;
+        }
+        set_free(image, sector);
+        j += 1;
+    }
+    j
+}
 
 // The bits of `n` sectors of a clean chain set.
 fn free_bits(image: &mut [u8], slot: u16, n: u16, start: u16)
@@ -26,9 +45,32 @@ fn free_bits(image: &mut [u8], slot: u16, n: u16, start: u16)
     while i < n {
         let after = next(image, k);
         set_free(image, k);
-        k = after;
         i += 1;
+        if after == k + 1 {
+            let run = free_run(image, n - i, after);
+            k = after + run;
+            i += run;
+        } else {
+            k = after;
+        }
     }
+}
+
+// As `free_run`, with the bits cleared.
+fn use_run(image: &mut [u8], n: u16, start: u16) -> u16
+    requires { ⌜ (length (now image) ≡ 92160) × DataFrom single (view single (now image)) n start ⌝ }
+    ensures { λ r. ⌜ Marking single useBits (view single (now (image .entry))) n start (view single (now (image .exit))) (start + r) r ⌝ }
+{
+    let mut j: u16 = 0;
+    while j < n {
+        let sector = start + j;
+        if next(image, sector) != sector + 1 {
+            return j;
+        }
+        set_used(image, sector);
+        j += 1;
+    }
+    j
 }
 
 // The bits of `n` sectors of a chain that is clean but for its free sectors cleared.
@@ -41,8 +83,14 @@ fn use_bits(image: &mut [u8], slot: u16, n: u16, start: u16)
     while i < n {
         let after = next(image, k);
         set_used(image, k);
-        k = after;
         i += 1;
+        if after == k + 1 {
+            let run = use_run(image, n - i, after);
+            k = after + run;
+            i += run;
+        } else {
+            k = after;
+        }
     }
 }
 

@@ -1,45 +1,79 @@
 use native.Mathlib.Omega.{arith}
 use mathlib.Core.Path.{_≡_}
 use mathlib.Core.Bool.{true}
-use Prim.Native.Nat.{_-_}
+use Prim.Native.Nat.{_+_, _-_}
 use lib.ListN.{length}
-use Rattle.files.proofs.Walks.{uses, Marking, marking-holds, marking-data, marking-again, marking-done}
+use Rattle.files.proofs.Walks.{uses, clean-data, marking-holds, marking-data, marking-top, marking-again, marking-on, marking-done}
+use Rattle.files.specs.Marking.{Marking}
 use Rattle.layout.specs.Image.{single, view}
-use Rattle.layout.specs.Volume.{setUsed, useBits}
-use Rattle.layout.proofs.Data.{data-facts}
+use Rattle.layout.specs.Volume.{useBits}
+use Rattle.layout.proofs.Data.{Data, data-facts}
 use borrow.Author.Needs.{needs}
 use Rattle.files.proofs.marks.use_bits.Statement.{statement}
 use Rattle.files.proofs.marks.use_bits.Tie as tie
 
 abbrev Inv-loop : tie.InvT-loop
-Inv-loop image₀ slot n start k₀ i₀ image k i = (length image ≡ 92160) × Marking single true setUsed useBits (view single image₀) slot n start (view single image) k i
+Inv-loop image₀ slot n start k₀ i₀ image k i = (length image ≡ 92160) × Marking single useBits (view single image₀) n start (view single image) k i
 
 abbrev μ-loop : tie.MeasureT-loop
 μ-loop image₀ slot n start k₀ i₀ image k i = n - i
 
+-- the sector that is reached
+here : (c : tie.In-loop Inv-loop μ-loop) → Data (c .before .loop .k)
+here c = data-facts _ (marking-data single (c .before .loop .inv .1) (c .loop-test .taken))
+
+-- the walk with this sector done
+turn : (c : tie.After-set-used Inv-loop μ-loop) → let at = c .before .before .before .before .before in
+    let a = at .before .before .args in
+    Marking single useBits (view single (a .image .now)) (a .n) (a .start) (view single (c .set-used .last .0)) (c .before .before .next .result) (at .loop .i + 1)
+turn c =
+    let in-loop = c .before .before .before .before in
+    marking-again single (in-loop .before .loop .inv .1) uses (in-loop .loop-test .taken) _ (c .before .before .next .ensures) _ (c .set-used .ensures)
+
 loop-holds : tie.Need-loop-holds Inv-loop μ-loop
-loop-holds c = (c .before .pre .0, marking-holds single true setUsed useBits uses (c .before .pre .1))
+loop-holds c = (c .before .pre .0, marking-holds single (clean-data single true _ _ _ _ (c .before .pre .1)))
 
 next-requires : tie.Need-next-requires Inv-loop μ-loop
-next-requires c κs = let q = data-facts _ (marking-data single true setUsed useBits uses (c .before .before .loop .inv .1) (c .before .loop-test .taken)) in omega arith
+next-requires c κs = let q = here (c .before) in omega arith
 
 set-used-requires : tie.Need-set-used-requires Inv-loop μ-loop
-set-used-requires c κs = let q = data-facts _ (marking-data single true setUsed useBits uses (c .before .before .before .before .loop .inv .1) (c .before .before .before .loop-test .taken)) in omega arith
+set-used-requires c κs = let q = here (c .before .before .before) in omega arith
 
 add-i : tie.Need-add-i Inv-loop μ-loop
 add-i c = search needs
+
+add-if1 : tie.Need-add-if1 Inv-loop μ-loop
+add-if1 c = let q = here (c .before .before .before .before .before .before) in omega arith
+
+sub-use-run : tie.Need-sub-use-run Inv-loop μ-loop
+sub-use-run c = search needs
+
+use-run-requires : tie.Need-use-run-requires Inv-loop μ-loop
+use-run-requires c κs = (omega arith, turn (c .before .before .before .before) .rest)
+
+add-k : tie.Need-add-k Inv-loop μ-loop
+add-k c = let q = marking-top single (c .before .before .use-run .ensures) in omega arith
+
+add-i-2 : tie.Need-add-i-2 Inv-loop μ-loop
+add-i-2 c = search needs
 
 loop-less : tie.Need-loop-less Inv-loop μ-loop
 loop-less c = search needs
 
 loop-again : tie.Need-loop-again Inv-loop μ-loop
-loop-again c = (omega arith, marking-again single true setUsed useBits uses (c .before .before .before .before .before .before .before .loop .inv .1) (c .before .before .before .before .before .before .loop-test .taken) _ (c .before .before .before .before .next .ensures) _ (c .before .before .set-used .ensures))
+loop-again c = (omega arith, marking-on single (turn (c .before .before .before .before .before .before .before)) _ _ _ (c .before .before .use-run .ensures))
+
+loop-less-2 : tie.Need-loop-less-2 Inv-loop μ-loop
+loop-less-2 c = search needs
+
+loop-again-2 : tie.Need-loop-again-2 Inv-loop μ-loop
+loop-again-2 c = (omega arith, turn (c .before .before .before))
 
 same-length : tie.Need-same-length Inv-loop μ-loop
-same-length c = omega arith
+same-length c = search needs
 
 returns : tie.Need-returns Inv-loop μ-loop
-returns c = marking-done single true setUsed useBits uses (c .before .loop .inv .1) (c .loop-test .left)
+returns c = marking-done single (c .before .loop .inv .1) uses (c .loop-test .left)
 
 pub use-bits-spec : {M : Type 1} → statement M
 use-bits-spec =
@@ -51,7 +85,14 @@ use-bits-spec =
     next-requires
     set-used-requires
     add-i
+    add-if1
+    sub-use-run
+    use-run-requires
+    add-k
+    add-i-2
     loop-less
     loop-again
+    loop-less-2
+    loop-again-2
     same-length
     returns)
