@@ -1,11 +1,10 @@
--- A CIO call changes at most the channel that it names, and its count is small.
+-- A command but get and put changes at most the channel that it names, and counts nothing.
 use mathlib.Core.Logic.{_≢_}
 use mathlib.Core.Bool.{Bool}
 use mathlib.Core.List.{List}
-use mathlib.Core.Path.{_≡_, refl}
-use Prim.Native.Nat.{ℕ, suc, _*_, _≤_, _<_}
-use native.Mathlib.Nat.{mul-le-mul-left}
-use native.Mathlib.Omega.{arith}
+use mathlib.Core.Path.{_≡_, refl, sym, subst}
+use Prim.Native.Nat.{ℕ}
+use borrow.Author.Tests.{ne-eqb}
 use Rattle.layout.specs.declared.State.{State}
 use Rattle.layout.specs.declared.State.the-variants.{Closed, Reading, Writing}
 use Rattle.layout.specs.declared.Table.{Table}
@@ -14,30 +13,26 @@ use Rattle.layout.specs.declared.Found.{Found}
 use Rattle.layout.specs.Basics.{check}
 use Rattle.layout.specs.Directory.{found}
 use Rattle.layout.specs.Names.{named}
-use Rattle.layout.specs.Image.{Disk, Geometry, view}
+use Rattle.layout.specs.Image.{Disk, Geometry}
 use Rattle.layout.specs.Volume.{bitOn, bitOff}
 use Rattle.layout.specs.Channels.{stateOf, withState}
 use Rattle.layout.proofs.Channels.{state-other}
-use Rattle.layout.proofs.Check.{by-check, by-named, by-found}
+use Rattle.layout.proofs.Check.{check-no, by-check, by-named, by-found}
 use Rattle.rules.specs.declared.Block.{Block}
-use Rattle.rules.specs.Commands.{Effect, refused, refuse, putAt, openRead, openFound, openNew, openWrite, openCall, closeState, closeCall, statusCall, renameCall, deleteCall, flagCall, lockCall, unlockCall, formatCall}
-use Rattle.words.proofs.Records.{leftOf}
-use Rattle.capi.proofs.GetCount.{get-most}
-use Rattle.capi.proofs.PutCount.{put-most}
-use Rattle.rules.specs.Cio.{Outcome, getAt, command, cio, cioCall}
+use Rattle.rules.specs.Commands.{Effect, refused, refuse, openRead, openFound, openNew, openWrite, openCall, closeState, closeCall, statusCall, renameCall, deleteCall, flagCall, lockCall, unlockCall, formatCall}
+use Rattle.rules.specs.Cio.{command}
 
--- a geometry with room, and a channel whose sectors yet to enter are a u16
-module _ (g : Geometry) (some : 0 < g .room) (d : Disk) (t : Table) (c : Block) (text b : List ℕ) (left : leftOf (stateOf t (c .channel)) < 65536) where
+module _ (g : Geometry) (d : Disk) (t : Table) (c : Block) (text b : List ℕ) where
   pub record Within (e : Effect) : Type 0 where
     pub others : (i : ℕ) → i ≢ c .channel → stateOf (e .table) i ≡ stateOf t i
-    pub most : e .count ≤ g .room * 65536
+    pub none : e .count ≡ 0
 
   -- with the table as it was, or with another state of that channel
   kept : (status : ℕ) (e : Disk) → Within (refused status e t)
-  kept status e = record { others = λ i n. refl; most = omega arith }
+  kept status e = record { others = λ i n. refl; none = refl }
 
-  moved : (e : Effect) (st : State) → e .table ≡ withState t (c .channel) st → e .count ≤ g .room * 65536 → Within e
-  moved e st p h = record { others = λ i n. rw p (state-other t (c .channel) st i n); most = h }
+  moved : (e : Effect) (st : State) → e .table ≡ withState t (c .channel) st → e .count ≡ 0 → Within e
+  moved e st p h = record { others = λ i n. rw p (state-other t (c .channel) st i n); none = h }
 
   -- a row that refuses; a name and a slot that are refused or not
   row : (test : Bool) (status : ℕ) (rest : Unit {0} → Effect) → Within (rest tt) → Within (check test (refuse g d t c text status) rest)
@@ -54,13 +49,13 @@ module _ (g : Geometry) (some : 0 < g .room) (d : Disk) (t : Table) (c : Block) 
   within-open = row _ _ _ (row _ _ _ (by-check Within _ _ _ reading (by-check Within _ _ _ writing (kept _ _))))
     where
       reading : Within (openRead g d t c text)
-      reading = name-row _ _ (λ w. slot-row _ _ _ (λ s. row _ _ _ (moved _ _ refl (omega arith))))
+      reading = name-row _ _ (λ w. slot-row _ _ _ (λ s. row _ _ _ (moved _ _ refl refl)))
 
       new : (w : ℕ → ℕ) → Within (openNew g d t c text w)
-      new w = slot-row _ _ _ (λ s. row _ _ _ (moved _ _ refl (omega arith)))
+      new w = slot-row _ _ _ (λ s. row _ _ _ (moved _ _ refl refl))
 
       old : (s : ℕ) → Within (openFound g d t c text s)
-      old s = row _ _ _ (row _ _ _ (row _ _ _ (moved _ _ refl (omega arith))))
+      old s = row _ _ _ (row _ _ _ (row _ _ _ (moved _ _ refl refl)))
 
       writing : Within (openWrite g d t c text)
       writing = name-row _ _ (λ w. row _ _ _ (by-found Within _ _ _ (new w) old))
@@ -70,9 +65,9 @@ module _ (g : Geometry) (some : 0 < g .room) (d : Disk) (t : Table) (c : Block) 
   within-close = go (stateOf t (c .channel))
     where
       go : (st : State) → Within (closeState g d t c text st)
-      go Closed = moved _ _ refl (omega arith)
-      go (Reading s k o l) = moved _ _ refl (omega arith)
-      go (Writing s p) = by-check Within _ _ _ (moved _ _ refl (omega arith)) (moved _ _ refl (omega arith))
+      go Closed = moved _ _ refl refl
+      go (Reading s k o l) = moved _ _ refl refl
+      go (Writing s p) = by-check Within _ _ _ (moved _ _ refl refl) (moved _ _ refl refl)
 
   within-status : Within (statusCall g d t c text)
   unfolding statusCall
@@ -94,15 +89,11 @@ module _ (g : Geometry) (some : 0 < g .room) (d : Disk) (t : Table) (c : Block) 
   unfolding formatCall
   within-format = row _ _ _ (row _ _ _ (row _ _ _ (kept _ _)))
 
-  within-put : Within (putAt g d t (c .channel) b)
-  unfolding putAt
-  within-put = moved _ _ refl (let h = put-most g d (stateOf t (c .channel)) b some in let m = mul-le-mul-left {m = 721} {n = 65536} (g .room) (omega arith) in omega arith)
-
-  within-command : Within (command g d t c text b)
+  pub within-command : c .command ≢ 11 → Within (command g d t c text b)
   unfolding command lockCall unlockCall
-  within-command =
+  within-command n =
       by-check Within _ _ _ within-open
-      (by-check Within _ _ _ within-put
+      (subst Within (sym (check-no {A = Effect} _ _ _ (ne-eqb (c .command) 11 n)))
       (by-check Within _ _ _ within-close
       (by-check Within _ _ _ within-status
       (by-check Within _ _ _ within-rename
@@ -111,17 +102,3 @@ module _ (g : Geometry) (some : 0 < g .room) (d : Disk) (t : Table) (c : Block) 
       (by-check Within _ _ _ (within-flag bitOff)
       (by-check Within _ _ _ within-format
       (row _ _ _ (kept _ _))))))))))
-
-  within-cio : Within (cio g d t c text b .effect)
-  unfolding cio getAt
-  within-cio = by-check whole _ _ _ (kept _ _) (by-check whole _ _ _ (moved _ _ refl (let h = get-most g d (stateOf t (c .channel)) b in let m = mul-le-mul-left {m = suc (leftOf (stateOf t (c .channel)))} {n = 65536} (g .room) (omega arith) in omega arith)) within-command)
-    where
-      whole : Outcome → Type 0
-      whole o = Within (o .effect)
-
--- on an image of any length
-pub cio-within : (g : Geometry) (some : 0 < g .room) (l : List ℕ) (t : Table) (c : Block) (text b : List ℕ) (left : leftOf (stateOf t (c .channel)) < 65536)
-    → Within g some (view g l) t c text b left (cioCall g l t c text b .effect)
-unfolding cioCall
-cio-within g some l t c text b left =
-    by-check (λ (o : Outcome). Within g some (view g l) t c text b left (o .effect)) _ _ _ (kept g some (view g l) t c text b left _ _) (within-cio g some (view g l) t c text b left)

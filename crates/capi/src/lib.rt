@@ -1,11 +1,13 @@
 // The library as C calls it: every function here is exported under its own name. A slice arrives as a pointer and a length.
 mod direct;
 
-use calls::cio::cio;
+use calls::command::others;
 use direct::get_direct;
 use direct::put_direct;
 use layout::Channel;
 use layout::Name;
+use layout::status::BAD_CHANNEL;
+use layout::status::BAD_IMAGE;
 use layout::status::SUCCESS;
 use names::name_byte;
 use names::read_name;
@@ -35,7 +37,7 @@ ghost use Rattle.rules.specs.Sectors.{sectorCall};
 ghost use Rattle.words.specs.Result.{packed};
 ghost use Rattle.capi.specs.Leaves.{block, cioLeaves, getLeaves, putLeaves, shownResult, nameLeaves};
 
-// A CIO call on a table of forty words.
+// A CIO call on a table of forty words. Get and put are reached only through the thin calls, so that the library has one copy of each.
 #[no_mangle]
 pub extern "C" fn dos_cio(
     image: &mut [u8],
@@ -52,11 +54,16 @@ pub extern "C" fn dos_cio(
     if !is_table(table) {
         return MALFORMED;
     }
-    let direct = (image.len() == 92160) & (channel < 8);
-    if direct & (command == 7) {
+    if image.len() != 92160 {
+        return pack(BAD_IMAGE, 0);
+    }
+    if 8 <= channel {
+        return pack(BAD_CHANNEL, 0);
+    }
+    if command == 7 {
         return get_direct(image, table, channel, buffer);
     }
-    if direct & (command == 11) {
+    if command == 11 {
         return put_direct(image, table, channel, buffer);
     }
     let c = Block {
@@ -64,7 +71,7 @@ pub extern "C" fn dos_cio(
         command,
         direction,
     };
-    let a = cio(image, table_of(table), c, name, buffer);
+    let a = others(image, table_of(table), c, name);
     let after = a.table;
     leave_table(table, channel, after);
     pack(a.status, a.count)

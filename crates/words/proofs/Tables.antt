@@ -4,11 +4,10 @@ use mathlib.Core.List.{List, _++_, append-assoc}
 use mathlib.Core.Logic.{_≢_}
 use mathlib.Core.Path.{_≡_, refl, sym, ap, _∙_}
 use Prim.Native.Nat.{ℕ, suc, zero, _+_, _*_, _-_, _≤_, _<_}
-use native.Mathlib.Decide.{decLt}
 use native.Mathlib.Nat.{add-zero, zero-add}
 use native.Mathlib.Omega.{arith}
 use lib.Dec.{eqb}
-use lib.ListN.{List·getD-eq-default, length, getD, take, drop, length-append, length-drop}
+use lib.ListN.{length, getD, take, drop, length-append, length-drop}
 use lib.Seq.{length-take-le, take-all, drop-append-add, getD-take, getD-drop, drop-drop, take-add, ext-getD, take-at}
 use borrow.Author.Tests.{eqb-true, eq-eqb}
 use Rattle.layout.specs.declared.State.{State}
@@ -20,7 +19,7 @@ use Rattle.layout.proofs.Channels.{state-same, state-other}
 use Rattle.layout.proofs.Logic.{and-left, and-right, and-both}
 use Rattle.layout.proofs.Search.{all-at, all-of}
 use Rattle.words.specs.Words.{inForce, isRecord, stateIn, recordAfter, recordAt, kindInForce, isTable, channelsFrom, tableOf, recordsAfter, wordsAfter, withRecord}
-use Rattle.words.proofs.Records.{record-keeps, record-says, record-five, kind-after, leftOf, left-word}
+use Rattle.words.proofs.Records.{record-keeps, record-says, record-five, kind-after}
 
 -- a table has forty words
 pub table-length : (ws : List ℕ) → isTable ws ≡ true → length ws ≡ 40
@@ -46,24 +45,6 @@ channels-length ws (suc n) c = ap suc (channels-length ws n (c + 1))
 table-eight : (ws : List ℕ) → length (tableOf ws .channels) ≡ 8
 unfolding tableOf
 table-eight ws = channels-length ws 8 0
-
-table-past : (ws : List ℕ) (i : ℕ) → 8 ≤ i → stateOf (tableOf ws) i ≡ Closed
-unfolding stateOf tableOf
-table-past ws i h = let m = channels-length ws 8 0 in ap (λ c. c .state) (List·getD-eq-default (channelsFrom ws 8 0) (channel Closed) {n = i} (omega arith))
-
--- the sectors yet to enter of a channel are a word of the table, or none
-pub left-small : (ws : List ℕ) (n : ℕ) → ((i : ℕ) → getD ws i 0 < n) → (c : ℕ) → leftOf (stateOf (tableOf ws) c) < n
-unfolding recordAt
-left-small ws n small c = go (decLt c 8)
-  where
-    go : Dec (c < 8) → leftOf (stateOf (tableOf ws) c) < n
-    go (yes l) =
-        let w = left-word (recordAt ws c) in
-        let e : getD (recordAt ws c) 4 0 ≡ getD ws (5 * c + 4) 0 = getD-take 5 (drop (5 * c) ws) 4 0 (omega arith) ∙ getD-drop (5 * c) ws 4 0 in
-        let h = small (5 * c + 4) in
-        let q = ap leftOf (table-state ws c l) in
-        omega arith
-    go (no l) = let z = small 0 in let q = ap leftOf (table-past ws c (omega arith)) in omega arith
 
 -- the kind of channel i is its record's first word
 kind-at : (ws : List ℕ) (i : ℕ) → kindInForce ws i ≡ inForce (getD (recordAt ws i) 0 0)
