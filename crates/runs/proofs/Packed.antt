@@ -1,24 +1,30 @@
 -- Bytes as one number: the sum that the code writes, and the same number from other names of the same bytes.
+use mathlib.Core.Bool.{Bool, true, false}
 use mathlib.Core.List.{List}
-use mathlib.Core.Path.{_≡_, refl, sym, _∙_}
-use Prim.Native.Nat.{ℕ, suc, zero, _+_, _*_, _^_, _≤_, _<_}
+use mathlib.Core.Path.{_≡_, sym, _∙_}
+use Prim.Native.Nat.{ℕ, suc, zero, _+_, _-_, _*_, _^_, _≤_, _<_}
 use native.Mathlib.Nat.{add-zero, zero-mul, eq-of-mul-eq-mul-right}
 use native.Mathlib.Decide.{ℕ-discrete}
 use native.Mathlib.Omega.{arith}
 use lib.ListN.{getD}
 use lib.Pow.{pow-pos}
-use Rattle.layout.specs.Image.{single, view}
+use Rattle.layout.specs.Basics.{if}
+use Rattle.layout.specs.Image.{single, inside, view}
 use Rattle.layout.specs.Directory.{name}
 use Rattle.layout.specs.Names.{packed}
 use Rattle.layout.proofs.Image.{view-byte, single-lawful, single-inside}
+use Rattle.layout.proofs.Packed.{packed-same}
 use Rattle.image.proofs.Places.{entry-place}
 use Rattle.runs.specs.Words.{bytesFrom, mapFrom, extension}
 
--- equal bytes make equal numbers
-pub packed-same : (f w : ℕ → ℕ) (n : ℕ) → ((j : ℕ) → j < n → f j ≡ w j) → packed f n ≡ packed w n
-unfolding packed
-packed-same f w zero h = refl
-packed-same f w (suc n) h = rw (packed-same f w n (λ j q. h j (omega arith)), h n (omega arith))
+-- the disk of an image of bytes has bytes
+pub view-small : (l : List ℕ) → ((i : ℕ) → getD l i 0 < 256) → (k j : ℕ) → view single l k j < 256
+unfolding view
+view-small l f k j = go (inside single k j)
+  where
+    go : (b : Bool) → if b (getD l ((k - 1) * 128 + j) 0) 0 < 256
+    go true = f ((k - 1) * 128 + j)
+    go false = omega arith
 
 -- a number of 0 has bytes of 0 alone
 pub packed-zero : (w : ℕ → ℕ) (n : ℕ) → packed w n ≡ 0 → (j : ℕ) → j < n → w j ≡ 0

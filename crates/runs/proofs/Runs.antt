@@ -19,6 +19,12 @@ sets-next l i j xs h = let e : i + suc j ≡ suc (i + j) = omega arith in rw (dr
 pub sets-end : (l : List ℕ) (i j : ℕ) (xs : List ℕ) → length xs ≤ j → sets l i (drop j xs) ≡ l
 sets-end l i j xs h = rw (drop-of-length-le xs h)
 
+-- the bytes up to one more, stored, are that one stored behind the others
+pub sets-last : (xs l : List ℕ) (i n : ℕ) → n < length xs → set (sets l i (take n xs)) (i + n) (getD xs n 0) ≡ sets l i (take (suc n) xs)
+sets-last [] l i n h = absurd (omega arith)
+sets-last (x ∷ xs) l i zero h = rw add-zero
+sets-last (x ∷ xs) l i (suc n) h = let e : i + suc n ≡ suc i + n = omega arith in rw e (sets-last xs (set l i x) (suc i) n (omega arith))
+
 module _ (g : Geometry) (lawful : Lawful g) where
   -- bytes stored in the image, within one sector, are bytes of that sector written
   pub view-sets : (xs l : List ℕ) (k j : ℕ) → ((i : ℕ) → i < length xs → inside g k (j + i) ≡ true) → g .start k + j + length xs ≤ length l

@@ -1,6 +1,7 @@
 use borrow.Author.Needs.{needs}
 use Rattle.layout.specs.Image.{single, view}
-use Rattle.directory.proofs.Words.{view-small, another-words}
+use Rattle.runs.proofs.Packed.{view-small}
+use Rattle.directory.proofs.Words.{another-words}
 use Rattle.directory.proofs.find.has_double.Statement.{statement}
 use Rattle.directory.proofs.find.has_double.Tie as tie
 

@@ -1,6 +1,7 @@
 use borrow.Author.Needs.{needs}
 use Rattle.layout.specs.Image.{single, view}
-use Rattle.directory.proofs.Words.{view-small, name-words}
+use Rattle.runs.proofs.Packed.{view-small}
+use Rattle.directory.proofs.Words.{name-words}
 use Rattle.directory.proofs.find.same_name.Statement.{statement}
 use Rattle.directory.proofs.find.same_name.Tie as tie
 
