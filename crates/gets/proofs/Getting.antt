@@ -1,21 +1,25 @@
 -- Bytes read by runs: a run of bytes out of one sector is the same bytes one by one.
 use mathlib.Core.List.{List}
+use mathlib.Core.Bool.{true, _&&_}
 use mathlib.Core.Path.{_≡_, refl, sym, ap, _∙_}
 use Prim.Native.Nat.{ℕ, suc, zero, _+_, _-_, _≤_, _<_}
-use native.Mathlib.Nat.{add-zero, sub-zero}
+use native.Mathlib.Nat.{add-zero, zero-add, sub-zero}
 use native.Mathlib.Numerals.{add-one}
 use native.Mathlib.Omega.{arith}
+use lib.Dec.{leb, ltb}
 use lib.ListN.{set}
 use lib.Seq.{sets}
+use borrow.Author.Tests.{leb-true, ltb-true}
 use Rattle.layout.specs.Basics.{valuesFrom}
 use Rattle.layout.specs.Image.{Disk, Geometry}
-use Rattle.layout.specs.File.{used}
+use Rattle.layout.specs.File.{next, used}
 use Rattle.layout.specs.Status.{success, badChain, endOfFile}
+use Rattle.layout.proofs.Logic.{and-left, and-right}
 use Rattle.rules.specs.declared.Place.{Place}
 use Rattle.rules.specs.declared.Seek.the-variants.{Ready, Ended, Broken}
 use Rattle.rules.specs.Get.{place, reads, seek, getFrom}
-use Rattle.gets.specs.Entered.{Entered, ByteLeft}
-use Rattle.gets.proofs.Seeking.{has-byte, seek-ready}
+use Rattle.gets.specs.Entered.{Entered, ByteLeft, full, Gets}
+use Rattle.gets.proofs.Seeking.{has-byte, seek-ready, full-used, full-left, seek-full}
 
 module _ (g : Geometry) (d : Disk) (s : ℕ) where
   get-step : (n i : ℕ) (p : Place) (b : List ℕ) (q : Place) → seek g d s (p .sector) (p .offset) (p .left) ≡ Ready q
@@ -39,38 +43,73 @@ module _ (g : Geometry) (d : Disk) (s : ℕ) where
       ap (λ x. getFrom g d s x i (place k o l) b) y ∙ get-step (m + n) i (place k o l) b (place k o l) (seek-ready g d s k o l (has-byte g d k o h (omega arith)))
       ∙ rw (e, r, add-one i) (get-run m (m + n) n (suc i) k (o + 1) l (set b i (d k o)) refl h (omega arith))
 
-  -- a loop that gets n bytes, before the i-th of them
-  pub record Gets (n : ℕ) (p₀ : Place) (b₀ : List ℕ) (p : Place) (b : List ℕ) (i : ℕ) : Type 0 where
-    pub most : i ≤ n
-    pub entered : Entered g d (p .sector)
-    pub same : getFrom g d s n 0 p₀ b₀ ≡ getFrom g d s (n - i) i p b
+module _ {g : Geometry} {d : Disk} {s n : ℕ} where
+  pub gets-start : (i : ℕ) (p : Place) (b : List ℕ) → i ≤ n → Entered g d (p .sector) → Gets g d s n i p b i p b
+  gets-start i p b h t = record { least = omega arith; most = h; entered = t; same = refl }
 
-module _ {g : Geometry} {d : Disk} {s n : ℕ} {p₀ : Place} {b₀ : List ℕ} where
-  pub gets-start : Entered g d (p₀ .sector) → Gets g d s n p₀ b₀ p₀ b₀ 0
-  gets-start t = record { most = omega arith; entered = t; same = rw sub-zero }
+  module _ {i₀ : ℕ} {p₀ : Place} {b₀ : List ℕ} {i : ℕ} {p : Place} {b : List ℕ} (w : Gets g d s n i₀ p₀ b₀ i p b) where
+    -- one part of a get after another
+    pub gets-on : {m i₁ : ℕ} {p₁ : Place} {b₁ : List ℕ} → m ≡ n → Gets g d s m i p b i₁ p₁ b₁ → Gets g d s n i₀ p₀ b₀ i₁ p₁ b₁
+    gets-on {i₁ = i₁} {p₁ = p₁} {b₁ = b₁} e v =
+        let x = w .least in
+        let y = v .least in
+        let z = v .most in
+        record { least = omega arith; most = omega arith; entered = v .entered; same = w .same ∙ ap (λ k. getFrom g d s (k - i) i p b) (sym e) ∙ v .same ∙ ap (λ k. getFrom g d s (k - i₁) i₁ p₁ b₁) e }
 
-  module _ {p : Place} {b : List ℕ} {i : ℕ} (w : Gets g d s n p₀ b₀ p b i) where
+    -- the search may be left out where it found a byte
+    pub gets-found : i < n → (q : Place) → seek g d s (p .sector) (p .offset) (p .left) ≡ Ready q → ByteLeft g d q → Gets g d s n i₀ p₀ b₀ i q b
+    gets-found h q e t =
+        let y : n - i ≡ suc (n - i - 1) = omega arith in
+        record {
+          least = w .least;
+          most = w .most;
+          entered = record { most = t .high; small = λ _. t .small };
+          same = w .same ∙ ap (λ x. getFrom g d s x i p b) y ∙ get-at g d s (n - i - 1) i p b q e t ∙ ap (λ x. getFrom g d s x i q b) (sym y);
+        }
+
+    pub gets-run : 1 ≤ p .sector → (m : ℕ) → i + m ≤ n → p .offset + m ≤ used g (d (p .sector)) → (c : List ℕ) → c ≡ sets b i (valuesFrom (d (p .sector)) m (p .offset))
+        → Gets g d s n i₀ p₀ b₀ (i + m) (place (p .sector) (p .offset + m) (p .left)) c
+    gets-run h m f u c z =
+        let t : n - i ≡ m + (n - (i + m)) = omega arith in
+        let x = w .least in
+        record { least = omega arith; most = f; entered = w .entered; same = w .same ∙ rw z (get-run g d s m (n - i) (n - (i + m)) i (p .sector) (p .offset) (p .left) b t h u) }
+
+  -- bytes of the sector where one is left, up to the place e in it
+  pub gets-here : (i : ℕ) (p : Place) (b : List ℕ) → ByteLeft g d p → (m : ℕ) → i + m ≤ n → p .offset + m ≤ used g (d (p .sector)) → (c : List ℕ) → c ≡ sets b i (valuesFrom (d (p .sector)) m (p .offset))
+      → (e : ℕ) → p .offset + m ≡ e → Gets g d s n i p b (i + m) (place (p .sector) e (p .left)) c
+  gets-here i p b t m f u c z e h = rw (← h) (gets-run (gets-start i p b (omega arith) (record { most = t .high; small = λ _. t .small })) (t .low) m f u c z)
+
+  -- a full sector behind the end of one that was entered
+  pub gets-full : 0 < g .room → {i₀ : ℕ} {p₀ : Place} {b₀ : List ℕ} {i k l : ℕ} {b : List ℕ} → Gets g d s n i₀ p₀ b₀ i (place k (g .room) l) b → 1 ≤ k → 0 < l → i + g .room ≤ n
+      → (t : ℕ) → t ≡ next g (d k) → full g d s t ≡ true → (c : List ℕ) → c ≡ sets b i (valuesFrom (d t) (g .room) 0)
+      → Gets g d s n i₀ p₀ b₀ (i + g .room) (place t (g .room) (l - 1)) c
+  gets-full r {i} {k} {l} w a h f t e u c z =
+      let v = full-left g d s t u r (l - 1) in
+      let y = full-used g d s t u in
+      let q = seek-full g d s t u k l (w .entered) a h e ∙ seek-ready g d s t 0 (l - 1) (has-byte g d t 0 (v .low) (v .within)) in
+      rw (zero-add (g .room)) at (gets-run (gets-found w (omega arith) (place t 0 (l - 1)) q v) (v .low) (g .room) f (omega arith) c z)
+
+  -- where a get ends that began at its byte 0: at the buffer's end, at the file's, or at a sector that cannot be entered
+  module _ {p₀ : Place} {b₀ : List ℕ} {i : ℕ} {p : Place} {b : List ℕ} (w : Gets g d s n 0 p₀ b₀ i p b) where
+    whole : getFrom g d s n 0 p₀ b₀ ≡ getFrom g d s (n - i) i p b
+    whole = ap (λ x. getFrom g d s x 0 p₀ b₀) (sym (sub-zero n)) ∙ w .same
+
     pub gets-all : n ≤ i → getFrom g d s n 0 p₀ b₀ ≡ reads success i p b
     unfolding getFrom
-    gets-all h = let e : n - i ≡ 0 = omega arith in w .same ∙ rw e
+    gets-all h = let e : n - i ≡ 0 = omega arith in whole ∙ rw e
 
-    pub gets-ended : i < n → (q : Place) → seek g d s (p .sector) (p .offset) (p .left) ≡ Ended q → getFrom g d s n 0 p₀ b₀ ≡ reads endOfFile i q b
-    unfolding getFrom
-    gets-ended h q e = let y : n - i ≡ suc (n - (i + 1)) = omega arith in w .same ∙ rw (y, e, getFrom)
+    module _ (h : i < n) (q : Place) where
+      more : n - i ≡ suc (n - (i + 1))
+      more = omega arith
 
-    pub gets-broken : i < n → (q : Place) → seek g d s (p .sector) (p .offset) (p .left) ≡ Broken q → getFrom g d s n 0 p₀ b₀ ≡ reads badChain i q b
-    unfolding getFrom
-    gets-broken h q e = let y : n - i ≡ suc (n - (i + 1)) = omega arith in w .same ∙ rw (y, e, getFrom)
+      pub gets-ended : seek g d s (p .sector) (p .offset) (p .left) ≡ Ended q → getFrom g d s n 0 p₀ b₀ ≡ reads endOfFile i q b
+      unfolding getFrom
+      gets-ended e = whole ∙ rw (more, e, getFrom)
 
-    pub gets-run : (q : Place) → seek g d s (p .sector) (p .offset) (p .left) ≡ Ready q → ByteLeft g d q
-        → (m : ℕ) → 0 < m → i + m ≤ n → q .offset + m ≤ used g (d (q .sector)) → (c : List ℕ) → c ≡ sets b i (valuesFrom (d (q .sector)) m (q .offset))
-        → Gets g d s n p₀ b₀ (place (q .sector) (q .offset + m) (q .left)) c (i + m)
-    gets-run q e h m a f u c z =
-        let y : n - i ≡ suc (n - i - 1) = omega arith in
-        let t : n - i ≡ m + (n - (i + m)) = omega arith in
-        record {
-          most = f;
-          entered = record { most = h .high; small = λ _. h .small };
-          same = w .same ∙ ap (λ x. getFrom g d s x i p b) y ∙ get-at g d s (n - i - 1) i p b q e h ∙ ap (λ x. getFrom g d s x i q b) (sym y)
-              ∙ rw z (get-run g d s m (n - i) (n - (i + m)) i (q .sector) (q .offset) (q .left) b t (h .low) u);
-        }
+      pub gets-broken : seek g d s (p .sector) (p .offset) (p .left) ≡ Broken q → getFrom g d s n 0 p₀ b₀ ≡ reads badChain i q b
+      unfolding getFrom
+      gets-broken e = whole ∙ rw (more, e, getFrom)
+
+-- what a loop over full sectors tests: sectors are left to enter, and the buffer has room
+pub room-left : (l m : ℕ) → (ltb 0 l && leb 125 m) ≡ true → (0 < l) × (125 ≤ m)
+room-left l m e = (ltb-true 0 l (and-left (ltb 0 l) (leb 125 m) e), leb-true 125 m (and-right (ltb 0 l) (leb 125 m) e))

@@ -1,13 +1,14 @@
 -- The search for the next byte: one step of it, and what it finds.
 use mathlib.Core.Bool.{true, false, not, _&&_, _||_}
+use mathlib.Core.Logic.{_≢_}
 use mathlib.Core.Path.{_≡_, sym, ap, subst}
 use Prim.Native.Nat.{ℕ, suc, zero, _-_, _≤_, _<_}
 use native.Mathlib.Decide.{ℕ-discrete}
 use native.Mathlib.Omega.{arith}
 use lib.Dec.{eqb, leb, ltb}
-use borrow.Author.Tests.{ne-eqb, eqb-false, lt-ltb, ltb-true, not-true}
+use borrow.Author.Tests.{eqb-true, ne-eqb, eqb-false, lt-ltb, le-ltb, ltb-true, not-true}
 use Rattle.layout.specs.Image.{Disk, Geometry}
-use Rattle.layout.specs.File.{used, fits}
+use Rattle.layout.specs.File.{next, used, fits}
 use Rattle.layout.proofs.Logic.{and-left, and-right}
 use Rattle.layout.proofs.Data.{data-facts}
 use Rattle.layout.proofs.Chain.{fits-data, fits-used}
@@ -15,7 +16,7 @@ use Rattle.rules.specs.declared.Place.{Place}
 use Rattle.rules.specs.declared.Seek.{Seek}
 use Rattle.rules.specs.declared.Seek.the-variants.{Ready, Ended, Broken}
 use Rattle.rules.specs.Get.{place, nextToEnter, hasByte, ends, seek, readable}
-use Rattle.gets.specs.Entered.{Entered, ByteLeft, Sought}
+use Rattle.gets.specs.Entered.{Entered, ByteLeft, Sought, full}
 
 -- where the search found a byte, it is left
 pub sought-left : {g : Geometry} {d : Disk} {q : Seek} {p : Place} → q ≡ Ready p → Sought g d q → ByteLeft g d p
@@ -72,3 +73,26 @@ module _ (g : Geometry) (d : Disk) where
       unfolding seek
       seek-on zero h e z f = absurd (omega arith)
       seek-on (suc l) h e z f = let q : suc l - 1 ≡ l = omega arith in rw (q, e, z, ← next, f, seek) (ap (λ x. seek g d s x 0 l) (sym next))
+
+  -- a full sector has bytes to read, and is the next that the search finds from the end of one before it
+  module _ (s t : ℕ) (u : full g d s t ≡ true) where
+    pub full-fits : fits g (d t) s t ≡ true
+    unfolding full
+    full-fits = and-left (fits g (d t) s t) (eqb (used g (d t)) (g .room)) u
+
+    pub full-used : used g (d t) ≡ g .room
+    unfolding full
+    full-used = eqb-true (used g (d t)) (g .room) (and-right (fits g (d t) s t) (eqb (used g (d t)) (g .room)) u)
+
+    pub full-left : 0 < g .room → (l : ℕ) → ByteLeft g d (place t 0 l)
+    full-left r l =
+        let q = data-facts t (fits-data g (d t) s t full-fits) in
+        let e = full-used in
+        record { low = omega arith; high = omega arith; within = omega arith; small = omega arith }
+
+    pub seek-full : (k l : ℕ) → Entered g d k → 1 ≤ k → 0 < l → t ≡ next g (d k) → seek g d s k (g .room) l ≡ seek g d s t 0 (l - 1)
+    unfolding nextToEnter hasByte ends
+    seek-full k l h a z e =
+        let n : k ≢ 0 = λ x. omega arith in
+        let f = data-facts t (fits-data g (d t) s t full-fits) in
+        seek-on s k (g .room) t (rw (ne-eqb k 0 n) e) l z (rw (ne-eqb k 0 n, le-ltb (g .room) (used g (d k)) (h .small a))) (rw (ne-eqb k 0 n, ← e, ne-eqb t 0 (λ x. omega arith))) full-fits

@@ -1,10 +1,15 @@
--- What a get knows of the sectors that it has entered.
-use Prim.Native.Nat.{ℕ, _≤_, _<_}
+-- What a get knows of the sectors that it has entered, and how far it has come.
+use mathlib.Core.Bool.{Bool, _&&_}
+use mathlib.Core.List.{List}
+use mathlib.Core.Path.{_≡_}
+use Prim.Native.Nat.{ℕ, _-_, _≤_, _<_}
+use lib.Dec.{eqb}
 use Rattle.layout.specs.Image.{Disk, Geometry}
-use Rattle.layout.specs.File.{used}
+use Rattle.layout.specs.File.{used, fits}
 use Rattle.rules.specs.declared.Place.{Place}
 use Rattle.rules.specs.declared.Seek.{Seek}
 use Rattle.rules.specs.declared.Seek.the-variants.{Ready, Ended, Broken}
+use Rattle.rules.specs.Get.{getFrom}
 
 module _ (g : Geometry) where
   -- an entered sector is on the disk and holds at most 125 bytes; 0 before any
@@ -24,3 +29,14 @@ module _ (g : Geometry) where
   Sought d (Ready p) = ByteLeft d p
   Sought d (Ended p) = Unit {0}
   Sought d (Broken p) = Unit {0}
+
+  -- a sector fits, and has no room left
+  unfoldable pub full : Disk → ℕ → ℕ → Bool
+  full d s k = fits g (d k) s k && eqb (used g (d k)) (g .room)
+
+  -- a get of n bytes: at its byte i₀ with place p₀ and buffer b₀ it goes on as at its byte i with place p and buffer b
+  pub record Gets (d : Disk) (s n i₀ : ℕ) (p₀ : Place) (b₀ : List ℕ) (i : ℕ) (p : Place) (b : List ℕ) : Type 0 where
+    pub least : i₀ ≤ i
+    pub most : i ≤ n
+    pub entered : Entered d (p .sector)
+    pub same : getFrom g d s (n - i₀) i₀ p₀ b₀ ≡ getFrom g d s (n - i) i p b

@@ -1,5 +1,6 @@
 // Get on one channel, a sector's run of bytes at a time.
 use super::seek::seek_byte;
+use super::whole::get_whole;
 use files::chain::fits;
 use image::link::used;
 use layout::State;
@@ -16,7 +17,7 @@ ghost use lib.ListN.{length};
 ghost use Rattle.layout.specs.Image.{single, view};
 ghost use Rattle.layout.specs.declared.State.the-variants.{Reading};
 ghost use Rattle.rules.specs.Get.{advanced, getFrom, readable, getOn};
-ghost use Rattle.gets.specs.Entered.{Entered};
+ghost use Rattle.gets.specs.Entered.{Entered, ByteLeft, Gets};
 
 // What reading bytes leaves.
 fn got(status: u8, count: usize, place: Place) -> Got
@@ -26,6 +27,45 @@ fn got(status: u8, count: usize, place: Place) -> Got
         status,
         count,
         place,
+    }
+}
+
+// A place that was reached, and the bytes of the buffer that are filled there.
+struct Reached {
+    place: Place,
+    count: usize,
+}
+
+// What is wanted of the sector where a byte is left; and behind the end of a full one, full sectors at once.
+fn get_here(image: &[u8], slot: u16, p: Place, buffer: &mut [u8], i: usize) -> Reached
+    requires { ⌜ (length (now image) ≡ 92160) × (i < length (now buffer)) × ByteLeft single (view single (now image)) p ⌝ }
+    ensures { λ r. ⌜ (i < r .count) × Gets single (view single (now (image .entry))) slot (length (now (buffer .entry))) i p (now (buffer .entry)) (r .count) (r .place) (now (buffer .exit)) ⌝ }
+{
+    let k = p.sector;
+    let o = p.offset;
+    let l = p.left;
+    let n = used(image, k) as u16;
+    let m = least((n - o) as usize, buffer.len() - i);
+    get_run(image, k, o as usize, m, buffer, i);
+    let e = o + m as u16;
+    if e != 125 {
+        return Reached {
+            place: Place {
+                sector: k,
+                offset: e,
+                left: l,
+            },
+            count: i + m,
+        };
+    }
+    let w = get_whole(image, slot, k, l, buffer, i + m);
+    Reached {
+        place: Place {
+            sector: w.sector,
+            offset: 125,
+            left: w.left,
+        },
+        count: w.count,
     }
 }
 
@@ -41,18 +81,9 @@ pub fn get_from(image: &[u8], slot: u16, start: Place, buffer: &mut [u8]) -> Got
         let s = seek_byte(image, slot, p);
         match s {
             Seek::Ready(q) => {
-                let k = q.sector;
-                let o = q.offset;
-                let l = q.left;
-                let n = used(image, k) as u16;
-                let m = least((n - o) as usize, buffer.len() - i);
-                get_run(image, k, o as usize, m, buffer, i);
-                p = Place {
-                    sector: k,
-                    offset: o + m as u16,
-                    left: l,
-                };
-                i += m;
+                let r = get_here(image, slot, q, buffer, i);
+                p = r.place;
+                i = r.count;
             }
             Seek::Ended(q) => {
                 return got(status::END_OF_FILE, i, q);

@@ -1,6 +1,6 @@
-use Rattle.gets.proofs.Getting.{Gets, gets-start, gets-all, gets-ended, gets-broken, gets-run}
+use Rattle.gets.proofs.Getting.{gets-start, gets-on, gets-all, gets-ended, gets-broken, gets-found}
 use Rattle.gets.proofs.Seeking.{sought-left}
-use Rattle.gets.specs.Entered.{ByteLeft}
+use Rattle.gets.specs.Entered.{ByteLeft, Gets}
 use Rattle.layout.specs.Image.{single, view}
 use lib.ListN.{length}
 use native.Mathlib.Omega.{arith}
@@ -11,7 +11,7 @@ use Rattle.gets.proofs.get.get_from.Statement.{statement}
 use Rattle.gets.proofs.get.get_from.Tie as tie
 
 abbrev Inv-loop : tie.InvT-loop
-Inv-loop image slot buffer₀ p₀ i₀ buffer p i = (length buffer ≡ length buffer₀) × Gets single (view single image) slot (length buffer₀) p₀ buffer₀ p buffer i
+Inv-loop image slot buffer₀ p₀ i₀ buffer p i = (length buffer ≡ length buffer₀) × Gets single (view single image) slot (length buffer₀) 0 p₀ buffer₀ i p buffer
 
 abbrev μ-loop : tie.MeasureT-loop
 μ-loop image slot buffer₀ p₀ i₀ buffer p i = length buffer₀ - i
@@ -21,7 +21,7 @@ left : (c : tie.After-s Inv-loop μ-loop) → ByteLeft single (view single (c .b
 left c = sought-left (c .s .given .1) (c .before .before .seek-byte .ensures .1)
 
 loop-holds : tie.Need-loop-holds Inv-loop μ-loop
-loop-holds c = (refl, gets-start (c .before .before .pre .2))
+loop-holds c = (refl, gets-start _ _ _ (omega arith) (c .before .before .pre .2))
 
 seek-byte-requires : tie.Need-seek-byte-requires Inv-loop μ-loop
 seek-byte-requires c κs = (omega arith, omega arith, c .before .loop .inv .1 .entered)
@@ -29,51 +29,21 @@ seek-byte-requires c κs = (omega arith, omega arith, c .before .loop .inv .1 .e
 enum-known-s : tie.Need-enum-known-s Inv-loop μ-loop
 enum-known-s c = search needs
 
-used-requires : tie.Need-used-requires Inv-loop μ-loop
-used-requires c κs = let w = left (c .before) in omega arith
-
-cast-n : tie.Need-cast-n Inv-loop μ-loop
-cast-n c = search needs
-
-sub-least : tie.Need-sub-least Inv-loop μ-loop
-sub-least c = let w = left (c .before .before) in omega arith
-
-cast-least : tie.Need-cast-least Inv-loop μ-loop
-cast-least c = let w = left (c .before .before) in omega arith
-
-sub-least-2 : tie.Need-sub-least-2 Inv-loop μ-loop
-sub-least-2 c = search needs
-
-least-requires : tie.Need-least-requires Inv-loop μ-loop
-least-requires c κs = search needs
-
-cast-get-run : tie.Need-cast-get-run Inv-loop μ-loop
-cast-get-run c = search needs
-
-get-run-requires : tie.Need-get-run-requires Inv-loop μ-loop
-get-run-requires c κs = let w = left (c .before .before .before .before) in omega arith
-
-cast-t19 : tie.Need-cast-t19 Inv-loop μ-loop
-cast-t19 c = let w = left (c .before .before .before .before .before .before .before) in omega arith
-
-add-t26 : tie.Need-add-t26 Inv-loop μ-loop
-add-t26 c = let w = left (c .before .before .before .before .before .before .before) in omega arith
-
-add-i : tie.Need-add-i Inv-loop μ-loop
-add-i c = search needs
+get-here-requires : tie.Need-get-here-requires Inv-loop μ-loop
+get-here-requires c κs = (omega arith, omega arith, left (c .before .before))
 
 loop-less : tie.Need-loop-less Inv-loop μ-loop
 loop-less c =
-    let at = c .before .before .before .before in
-    let w = left (at .before .before .before) in omega (arith, at .least .ensures .2 (omega arith) (omega arith))
+    let call = c .before .before .before in
+    let got = call .get-here .ensures in
+    let most = got .1 .most in omega (arith, got .0)
 
 loop-again : tie.Need-loop-again Inv-loop μ-loop
 loop-again c =
-    let at = c .before .before .before .before in
-    let w = left (at .before .before .before) in (
-      omega arith,
-      gets-run (at .before .before .before .before .before .before .before .loop .inv .1) _ (sym (at .before .before .before .before .before .seek-byte .ensures .0) ∙ at .before .before .before .s .given .1) w (at .least .result) (at .least .ensures .2 (omega arith) (omega arith)) (omega arith) (omega arith) _ (c .before .before .get-run .ensures),
-    )
+    let call = c .before .before .before in
+    let found = call .before .before .before in
+    let inv = found .before .before .before .before .loop .inv in
+    (omega arith, gets-on (gets-found (inv .1) (omega arith) _ (sym (found .before .before .seek-byte .ensures .0) ∙ found .s .given .1) (left found)) (inv .0) (call .get-here .ensures .1))
 
 enum-known-s-2 : tie.Need-enum-known-s-2 Inv-loop μ-loop
 enum-known-s-2 c = search needs
@@ -124,17 +94,7 @@ get-from-spec =
     loop-holds
     seek-byte-requires
     enum-known-s
-    used-requires
-    cast-n
-    sub-least
-    cast-least
-    sub-least-2
-    least-requires
-    cast-get-run
-    get-run-requires
-    cast-t19
-    add-t26
-    add-i
+    get-here-requires
     loop-less
     loop-again
     enum-known-s-2

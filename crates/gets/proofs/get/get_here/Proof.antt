@@ -1,0 +1,91 @@
+use Rattle.gets.proofs.Getting.{gets-on, gets-here}
+use native.Mathlib.Omega.{arith}
+use mathlib.Core.Path.{refl}
+use borrow.Author.Needs.{needs}
+use Rattle.gets.proofs.get.get_here.Statement.{statement}
+use Rattle.gets.proofs.get.get_here.Tie as tie
+
+used-requires : tie.Need-used-requires
+used-requires c κs = search needs
+
+cast-n : tie.Need-cast-n
+cast-n c = search needs
+
+sub-least : tie.Need-sub-least
+sub-least c = search needs
+
+cast-least : tie.Need-cast-least
+cast-least c = search needs
+
+sub-least-2 : tie.Need-sub-least-2
+sub-least-2 c = search needs
+
+least-requires : tie.Need-least-requires
+least-requires c κs = search needs
+
+cast-get-run : tie.Need-cast-get-run
+cast-get-run c = search needs
+
+get-run-requires : tie.Need-get-run-requires
+get-run-requires c κs = search needs
+
+cast-e : tie.Need-cast-e
+cast-e c = search needs
+
+add-e : tie.Need-add-e
+add-e c = search needs
+
+add-t23 : tie.Need-add-t23
+add-t23 c = search needs
+
+same-length : tie.Need-same-length
+same-length c = search needs
+
+returns : tie.Need-returns
+returns c =
+    let ran = c .before .before .before in
+    let least = ran .before .before .least in
+    let some = least .ensures .2 (omega arith) (omega arith) in
+    let left = ran .before .before .before .before .before .before .pre .2 in
+    (omega arith, gets-here _ _ _ left (least .result) (omega arith) (omega arith) _ (ran .get-run .ensures) _ refl)
+
+add-get-whole : tie.Need-add-get-whole
+add-get-whole c = search needs
+
+get-whole-requires : tie.Need-get-whole-requires
+get-whole-requires c κs = search needs
+
+same-length-2 : tie.Need-same-length-2
+same-length-2 c = search needs
+
+returns-2 : tie.Need-returns-2
+returns-2 c =
+    let ran = c .before .before .before .before .before .before .before in
+    let least = ran .before .before .least in
+    let some = least .ensures .2 (omega arith) (omega arith) in
+    let left = ran .before .before .before .before .before .before .pre .2 in
+    let whole = c .before .before .get-whole .ensures .1 in
+    let more = whole .least in
+    (omega arith, gets-on (gets-here _ _ _ left (least .result) (omega arith) (omega arith) _ (ran .get-run .ensures) 125 (c .before .before .before .before .if1 .left)) (omega arith) whole)
+
+pub get-here-spec : {M : Type 1} → statement M
+get-here-spec =
+    tie.close
+    (tie.spec
+    used-requires
+    cast-n
+    sub-least
+    cast-least
+    sub-least-2
+    least-requires
+    cast-get-run
+    get-run-requires
+    cast-e
+    add-e
+    add-t23
+    same-length
+    returns
+    add-get-whole
+    get-whole-requires
+    same-length-2
+    returns-2)
