@@ -8,58 +8,32 @@ use volume::map::less;
 use volume::map::set_free;
 use volume::map::set_free_count;
 use volume::map::set_used;
-ghost use mathlib.Core.Bool.{true, false};
+ghost use mathlib.Core.Bool.{true};
 ghost use mathlib.Core.Path.{_≡_};
 ghost use Prim.Native.Nat.{_+_, _<_};
 ghost use lib.ListN.{length};
 ghost use Rattle.layout.specs.Image.{single, view};
-ghost use Rattle.layout.specs.Volume.{freeBits, useBits, useAll};
-ghost use Rattle.layout.specs.File.{cleanFrom, clean, cleanFree, sectorsFrom, chain, freeChain, delete, restore};
-ghost use Rattle.files.specs.Marking.{DataFrom, Marking};
+ghost use Rattle.layout.specs.Volume.{useAll};
+ghost use Rattle.layout.specs.File.{clean, cleanFree, sectorsFrom, chain, freeChain, delete, restore};
+ghost use Rattle.files.specs.Marking.{setBit, setBits, DataFrom, Marking};
 
-// The bits of sectors from `start` on set, at most `n` of them, as long as each leads to the sector after it on the disk; how many.
-// As in the test of a chain the sector is a plain count, so that none waits for the link before it.
-fn free_run(image: &mut [u8], n: u16, start: u16) -> u16
-    requires { ⌜ (length (now image) ≡ 92160) × DataFrom single (view single (now image)) n start ⌝ }
-    ensures { λ r. ⌜ Marking single freeBits (view single (now (image .entry))) n start (view single (now (image .exit))) (start + r) r ⌝ }
+// A sector's map bit set where `free` says so, cleared otherwise.
+fn set_bit(image: &mut [u8], free: bool, sector: u16)
+    requires { ⌜ (length (now image) ≡ 92160) × (sector < 720) ⌝ }
+    ensures { λ _. ⌜ view single (now (image .exit)) ≡ setBit free (view single (now (image .entry))) sector ⌝ }
 {
-    let mut j: u16 = 0;
-    while j < n {
-        let sector = start + j;
-        if next(image, sector) != sector + 1 {
-            return j;
-        }
+    if free {
         set_free(image, sector);
-        j += 1;
-    }
-    j
-}
-
-// The bits of `n` sectors of a clean chain set.
-fn free_bits(image: &mut [u8], slot: u16, n: u16, start: u16)
-    requires { ⌜ (length (now image) ≡ 92160) × (cleanFrom single false (view single (now image)) slot n start ≡ true) ⌝ }
-    ensures { λ _. ⌜ view single (now (image .exit)) ≡ freeBits (sectorsFrom single (view single (now (image .entry))) n start) (view single (now (image .entry))) ⌝ }
-{
-    let mut k = start;
-    let mut i: u16 = 0;
-    while i < n {
-        let after = next(image, k);
-        set_free(image, k);
-        i += 1;
-        if after == k + 1 {
-            let run = free_run(image, n - i, after);
-            k = after + run;
-            i += run;
-        } else {
-            k = after;
-        }
+    } else {
+        set_used(image, sector);
     }
 }
 
-// As `free_run`, with the bits cleared.
-fn use_run(image: &mut [u8], n: u16, start: u16) -> u16
+// The map bits of sectors from `start` on changed, at most `n` of them, as long as each leads to the sector after it on the disk; how many.
+// As in the test of a chain the sector is a plain count, so that none waits for the link before it.
+fn mark_run(image: &mut [u8], free: bool, n: u16, start: u16) -> u16
     requires { ⌜ (length (now image) ≡ 92160) × DataFrom single (view single (now image)) n start ⌝ }
-    ensures { λ r. ⌜ Marking single useBits (view single (now (image .entry))) n start (view single (now (image .exit))) (start + r) r ⌝ }
+    ensures { λ r. ⌜ Marking single free (view single (now (image .entry))) n start (view single (now (image .exit))) (start + r) r ⌝ }
 {
     let mut j: u16 = 0;
     while j < n {
@@ -67,25 +41,25 @@ fn use_run(image: &mut [u8], n: u16, start: u16) -> u16
         if next(image, sector) != sector + 1 {
             return j;
         }
-        set_used(image, sector);
+        set_bit(image, free, sector);
         j += 1;
     }
     j
 }
 
-// The bits of `n` sectors of a chain that is clean but for its free sectors cleared.
-fn use_bits(image: &mut [u8], slot: u16, n: u16, start: u16)
-    requires { ⌜ (length (now image) ≡ 92160) × (cleanFrom single true (view single (now image)) slot n start ≡ true) ⌝ }
-    ensures { λ _. ⌜ view single (now (image .exit)) ≡ useBits (sectorsFrom single (view single (now (image .entry))) n start) (view single (now (image .entry))) ⌝ }
+// The map bits of a chain's `n` sectors changed. Where a link leads to the sector after it on the disk, as most do, `mark_run` walks on from there.
+fn mark_bits(image: &mut [u8], free: bool, n: u16, start: u16)
+    requires { ⌜ (length (now image) ≡ 92160) × DataFrom single (view single (now image)) n start ⌝ }
+    ensures { λ _. ⌜ view single (now (image .exit)) ≡ setBits free (sectorsFrom single (view single (now (image .entry))) n start) (view single (now (image .entry))) ⌝ }
 {
     let mut k = start;
     let mut i: u16 = 0;
     while i < n {
         let after = next(image, k);
-        set_used(image, k);
+        set_bit(image, free, k);
         i += 1;
         if after == k + 1 {
-            let run = use_run(image, n - i, after);
+            let run = mark_run(image, free, n - i, after);
             k = after + run;
             i += run;
         } else {
@@ -102,7 +76,7 @@ pub fn free_chain(image: &mut [u8], slot: u16)
     let had = free_count(image);
     let n = count(image, slot);
     let start = first(image, slot);
-    free_bits(image, slot, n, start);
+    mark_bits(image, true, n, start);
     set_free_count(image, had as u32 + n as u32);
 }
 
@@ -124,7 +98,7 @@ fn use_chain(image: &mut [u8], slot: u16) -> usize
     let had = free_count(image);
     let n = count(image, slot);
     let start = first(image, slot);
-    use_bits(image, slot, n, start);
+    mark_bits(image, false, n, start);
     set_free_count(image, less(had, n));
     n as usize
 }

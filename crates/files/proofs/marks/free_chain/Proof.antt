@@ -1,5 +1,5 @@
 use mathlib.Core.Bool.{false}
-use Rattle.files.proofs.Given.{clean-chain}
+use Rattle.files.proofs.Walks.{clean-data}
 use Rattle.layout.specs.Directory.{count, first}
 use Rattle.layout.specs.File.{chain, freeChain}
 use Rattle.layout.specs.Image.{single, view}
@@ -18,8 +18,8 @@ count-requires c κs = search needs
 first-requires : tie.Need-first-requires
 first-requires c κs = search needs
 
-free-bits-requires : tie.Need-free-bits-requires
-free-bits-requires c κs = (search needs, rw (c .before .before .before .count .ensures, c .before .first .ensures) (clean-chain single false _ _ (c .before .before .before .before .before .before .before .before .pre .2)))
+mark-bits-requires : tie.Need-mark-bits-requires
+mark-bits-requires c κs = (search needs, rw (c .before .before .before .count .ensures, c .before .first .ensures) (clean-data single false _ _ (c .before .before .before .before .before .before .before .before .pre .2)))
 
 cast-set-free-count : tie.Need-cast-set-free-count
 cast-set-free-count c = search needs
@@ -49,7 +49,7 @@ free-chain-spec =
     free-count-requires
     count-requires
     first-requires
-    free-bits-requires
+    mark-bits-requires
     cast-set-free-count
     cast-set-free-count-2
     add-set-free-count

@@ -1,5 +1,5 @@
 use mathlib.Core.Bool.{true}
-use Rattle.files.proofs.Given.{clean-chain}
+use Rattle.files.proofs.Walks.{clean-data}
 use Rattle.layout.specs.Directory.{count, first}
 use Rattle.layout.specs.File.{chain}
 use Rattle.layout.specs.Image.{single, view}
@@ -18,8 +18,8 @@ count-requires c κs = search needs
 first-requires : tie.Need-first-requires
 first-requires c κs = search needs
 
-use-bits-requires : tie.Need-use-bits-requires
-use-bits-requires c κs = (search needs, rw (c .before .before .before .count .ensures, c .before .first .ensures) (clean-chain single true _ _ (c .before .before .before .before .before .before .before .before .pre .2)))
+mark-bits-requires : tie.Need-mark-bits-requires
+mark-bits-requires c κs = (search needs, rw (c .before .before .before .count .ensures, c .before .first .ensures) (clean-data single true _ _ (c .before .before .before .before .before .before .before .before .pre .2)))
 
 less-requires : tie.Need-less-requires
 less-requires c κs = search needs
@@ -46,7 +46,7 @@ use-chain-spec =
     free-count-requires
     count-requires
     first-requires
-    use-bits-requires
+    mark-bits-requires
     less-requires
     set-free-count-requires
     cast-result

@@ -3,20 +3,19 @@ use mathlib.Core.Path.{_≡_, sym, _∙_}
 use Prim.Native.Nat.{_+_, _-_}
 use native.Mathlib.Nat.{add-zero, add-assoc}
 use lib.ListN.{length}
-use Rattle.files.proofs.Walks.{frees, marking-holds, marking-data, marking-again}
+use Rattle.files.proofs.Walks.{marking-holds, marking-data, marking-again}
 use Rattle.files.specs.Marking.{Marking}
 use Rattle.layout.specs.Image.{single, view}
-use Rattle.layout.specs.Volume.{freeBits}
 use Rattle.layout.proofs.Data.{Data, data-facts}
 use borrow.Author.Needs.{needs}
-use Rattle.files.proofs.marks.free_run.Statement.{statement}
-use Rattle.files.proofs.marks.free_run.Tie as tie
+use Rattle.files.proofs.marks.mark_run.Statement.{statement}
+use Rattle.files.proofs.marks.mark_run.Tie as tie
 
 abbrev Inv-loop : tie.InvT-loop
-Inv-loop image₀ n start j₀ image j = (length image ≡ 92160) × Marking single freeBits (view single image₀) n start (view single image) (start + j) j
+Inv-loop image₀ free n start j₀ image j = (length image ≡ 92160) × Marking single free (view single image₀) n start (view single image) (start + j) j
 
 abbrev μ-loop : tie.MeasureT-loop
-μ-loop image₀ n start j₀ image j = n - j
+μ-loop image₀ free n start j₀ image j = n - j
 
 -- the sector that is reached
 here : (c : tie.In-loop Inv-loop μ-loop) → Data (c .before .before .before .args .start + c .before .loop .j)
@@ -40,8 +39,8 @@ same-length c = search needs
 returns : tie.Need-returns Inv-loop μ-loop
 returns c = search needs
 
-set-free-requires : tie.Need-set-free-requires Inv-loop μ-loop
-set-free-requires c κs = let q = here (c .before .before .before .before) in omega arith
+set-bit-requires : tie.Need-set-bit-requires Inv-loop μ-loop
+set-bit-requires c κs = let q = here (c .before .before .before .before) in omega arith
 
 add-j : tie.Need-add-j Inv-loop μ-loop
 add-j c = search needs
@@ -54,7 +53,7 @@ loop-again c =
     let at = c .before .before .before .before in
     let in-loop = at .before .before .before in
     let e = sym (add-assoc _ _ 1) ∙ sym (at .if1 .left) ∙ at .before .next .ensures in
-    (omega arith, marking-again single (in-loop .before .loop .inv .1) frees (in-loop .loop-test .taken) _ e _ (c .before .before .set-free .ensures))
+    (omega arith, marking-again single (in-loop .before .loop .inv .1) (in-loop .loop-test .taken) _ e _ (c .before .before .set-bit .ensures))
 
 same-length-2 : tie.Need-same-length-2 Inv-loop μ-loop
 same-length-2 c = search needs
@@ -62,8 +61,8 @@ same-length-2 c = search needs
 returns-2 : tie.Need-returns-2 Inv-loop μ-loop
 returns-2 c = search needs
 
-pub free-run-spec : {M : Type 1} → statement M
-free-run-spec =
+pub mark-run-spec : {M : Type 1} → statement M
+mark-run-spec =
     tie.close
     (tie.spec
     Inv-loop
@@ -74,7 +73,7 @@ free-run-spec =
     add-if1
     same-length
     returns
-    set-free-requires
+    set-bit-requires
     add-j
     loop-less
     loop-again
