@@ -1,11 +1,13 @@
 //! Measures the time of some calls on both sides, in one run, alternately.
 //!
 //! ```text
-//! bench [--repetitions N]
+//! bench [--scattered] [--repetitions N]
 //! ```
 //!
 //! Each line of the table is one kind of call. A repetition makes a number of such calls on each
-//! side, from the same disk; the times are medians of one call over all repetitions.
+//! side, from the same disk; the times are medians of one call over all repetitions. A file lies
+//! in consecutive sectors, as on a disk that was filled from the start; with `--scattered` two
+//! files alternate sector by sector.
 
 use std::process::ExitCode;
 use std::time::{Duration, Instant};
@@ -28,6 +30,9 @@ const WRITE: u8 = 8;
 
 /// Bytes that fill a disk.
 const WHOLE_DISK: usize = 88_375;
+
+/// Sectors of each of two files that fill a disk together.
+const SCATTERED: usize = 353;
 
 /// An image and a table.
 #[derive(Clone)]
@@ -81,6 +86,26 @@ impl Desk {
         self.with(OPEN, WRITE, name, &mut [])
             .with(PUT, 0, b"", &mut vec![0x5a; length])
             .with(CLOSE, 0, b"", &mut [])
+    }
+
+    /// Two files that were written in turn, a sector at a time.
+    fn with_two_files(mut self) -> Desk {
+        let (mut first, mut second) = (Desk::new().table, Desk::new().table);
+        for _ in 0..SCATTERED {
+            for (table, slot) in [(&mut first, 0), (&mut second, 1)] {
+                self.table = *table;
+                if table[0] == 0 {
+                    self = self.with(OPEN, WRITE, &file_name(slot), &mut []);
+                }
+                self = self.with(PUT, 0, b"", &mut [0x5a; 125]);
+                *table = self.table;
+            }
+        }
+        for table in [first, second] {
+            self.table = table;
+            self = self.with(CLOSE, 0, b"", &mut []);
+        }
+        self
     }
 
     /// A full directory of files of one byte.
@@ -145,6 +170,40 @@ fn open_last() -> Line {
     Line {
         text: "open of the 64th file".into(),
         start,
+        calls: Box::new(run),
+    }
+}
+
+/// Get of a whole file in every other sector.
+fn get_scattered() -> Line {
+    const LENGTH: usize = 125 * SCATTERED;
+    let run = |side: &dyn Side, desk: &mut Desk| {
+        let mut buffer = vec![0; LENGTH];
+        let begun = Instant::now();
+        let answer = desk.cio(side, GET, 0, b"", &mut buffer);
+        assert_eq!(answer, 1 + 256 * LENGTH as u64);
+        begun.elapsed()
+    };
+    let start = Desk::new()
+        .with_two_files()
+        .with(OPEN, READ, &file_name(0), &mut []);
+    Line {
+        text: format!("get of {LENGTH} bytes, every other sector"),
+        start,
+        calls: Box::new(run),
+    }
+}
+
+/// Delete of a file in every other sector.
+fn delete_scattered() -> Line {
+    let run = |side: &dyn Side, desk: &mut Desk| {
+        let begun = Instant::now();
+        assert_eq!(desk.cio(side, DELETE, 0, &file_name(0), &mut []), 1);
+        begun.elapsed()
+    };
+    Line {
+        text: format!("delete of {SCATTERED} sectors, every other one"),
+        start: Desk::new().with_two_files(),
         calls: Box::new(run),
     }
 }
@@ -214,34 +273,53 @@ fn measure(line: &Line, repetitions: usize) -> [Duration; 2] {
     })
 }
 
-fn repetitions(mut words: impl Iterator<Item = String>) -> Option<usize> {
+/// What the command line asks for.
+struct Options {
+    scattered: bool,
+    repetitions: usize,
+}
+
+fn options(words: impl Iterator<Item = String>) -> Option<Options> {
+    let mut words = words.peekable();
+    let scattered = words.next_if(|word| word == "--scattered").is_some();
     let repetitions = match words.next() {
         None => REPETITIONS,
         Some(word) if word == "--repetitions" => words.next()?.parse().ok()?,
         Some(_) => return None,
     };
-    (repetitions > 0 && words.next().is_none()).then_some(repetitions)
+    (repetitions > 0 && words.next().is_none()).then_some(Options {
+        scattered,
+        repetitions,
+    })
+}
+
+/// The lines of the table.
+fn lines(scattered: bool) -> Vec<Line> {
+    if scattered {
+        return vec![get_scattered(), delete_scattered()];
+    }
+    let lengths = [1, 125, 10_000, WHOLE_DISK];
+    let transfers = [PUT, GET]
+        .into_iter()
+        .flat_map(|command| lengths.map(|length| transfers(command, length)));
+    let others = [
+        open_last(),
+        status_of_none(),
+        delete_whole(),
+        recover_whole(),
+    ];
+    transfers.chain(others).collect()
 }
 
 fn main() -> ExitCode {
-    let Some(repetitions) = repetitions(std::env::args().skip(1)) else {
-        eprintln!("usage: bench [--repetitions N]");
+    let Some(options) = options(std::env::args().skip(1)) else {
+        eprintln!("usage: bench [--scattered] [--repetitions N]");
         return ExitCode::FAILURE;
     };
     println!("| Call | {LIBRARY_NAME}, ns | model, ns | ratio |");
     println!("|---|---:|---:|---:|");
-    let lengths = [1, 125, 10_000, WHOLE_DISK];
-    let lines = [PUT, GET]
-        .into_iter()
-        .flat_map(|command| lengths.map(|length| transfers(command, length)))
-        .chain([
-            open_last(),
-            status_of_none(),
-            delete_whole(),
-            recover_whole(),
-        ]);
-    for line in lines {
-        let [library, model] = measure(&line, repetitions).map(|time| time.as_nanos());
+    for line in lines(options.scattered) {
+        let [library, model] = measure(&line, options.repetitions).map(|time| time.as_nanos());
         let ratio = library as f64 / model as f64;
         println!("| {} | {library} | {model} | {ratio:.2} |", line.text);
     }
