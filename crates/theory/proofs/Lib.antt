@@ -2,6 +2,7 @@ pub mod Names
 pub mod Standing
 pub mod Find
 pub mod Row
+pub mod Placed
 pub mod Sectors
 pub mod Give
 pub mod Delete
@@ -15,11 +16,13 @@ pub mod SoundChange
 pub mod PutStep
 pub mod CommandStep
 pub mod Calls
+pub mod PlacedCalls
 pub mod Deleted
 pub mod SoundDir
 pub mod SoundChan
 pub mod Recovered
 pub mod Demand3
+pub mod ImageDemand3
 pub mod Contents
 pub mod Writer
 pub mod SoundAdd
