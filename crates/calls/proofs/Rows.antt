@@ -102,4 +102,7 @@ module _ (g : Geometry) (d : Disk) (t : Table) (c : Block) (text : List ℕ) whe
   unfolding statusCall
   status-disk =
       let same : Effect → Type 0 = λ o. o .disk ≡ d in
-      by-check same _ _ _ refl (by-named same _ _ _ (λ s. refl) (λ w. by-found same _ _ _ refl (λ s. by-check same _ _ _ refl refl)))
+      by-check same _ _ _ (λ _. refl) λ _.
+      by-named same _ _ _ (λ status. refl) λ a e _.
+      by-found same _ _ _ (λ _. refl) λ s _.
+      by-check same _ _ _ (λ _. refl) λ _. refl

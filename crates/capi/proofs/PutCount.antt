@@ -13,6 +13,7 @@ use Rattle.layout.specs.declared.State.the-variants.{Closed, Reading, Writing}
 use Rattle.layout.specs.Image.{Disk, Geometry, put}
 use Rattle.layout.specs.Volume.{dataSector, free, onesBelow, good, lowest, setUsed, marked, freeCount}
 use Rattle.layout.specs.File.{used, give}
+use Rattle.layout.proofs.Check.{by-check}
 use Rattle.layout.proofs.Update.{put-other}
 use Rattle.layout.proofs.Data.{data-facts}
 use Rattle.layout.proofs.Map.{setUsed-ones, setFreeCount-ones}
@@ -22,7 +23,6 @@ use Rattle.rules.specs.Put.{PutOutcome, roomIn, puts, roomFor, addByte, putFrom
 use Rattle.puts.proofs.Adding.{used-add, put-next, put-full, room-here, room-none, room-new}
 use Rattle.puts.proofs.Searching.{used-other, give-table, give-empty}
 use Rattle.puts.proofs.Slots.{writable-last}
-use Rattle.capi.proofs.GetCount.{by-row}
 
 -- a free sector marked used is one free sector less
 marked-ones : (d : Disk) (k : ℕ) → k < 720 → free (d 360) k ≡ true → onesBelow (d 360) 90 ≡ suc (onesBelow (marked d k 360) 90)
@@ -79,12 +79,14 @@ unfolding putOn puts reach
 put-most g d Closed b some = omega arith
 put-most g d (Reading s k o l) b some = omega arith
 put-most g d (Writing s p) b some =
-    by-row most _ _ _ (omega arith) (λ _. by-row most _ _ _ (omega arith) (λ t. by-row most _ _ _ (omega arith) (λ w.
+    by-check most _ _ _ (λ _. omega arith) λ _.
+    by-check most _ _ _ (λ _. omega arith) λ t.
+    by-check most _ _ _ (λ _. omega arith) λ w.
     let h = put-reach g s some b d p 0 (good-facts (d 360) (not-false (good (d 360)) t)) (writable-last g d s p (not-false (writable g d s p) w)) in
     let n = ones-most (d 360) 90 in
     let m = mul-le-mul-left (g .room) n in
     let a = mul-suc (g .room) 720 in
-    omega arith)))
+    omega arith
   where
     most : PutOutcome → Type 0
     most a = a .answer .count ≤ g .room * 721

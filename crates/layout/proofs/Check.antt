@@ -1,6 +1,6 @@
 -- How a call's definition is gone down, row by row: a check that holds or not, a name that was taken apart or refused, a slot that was found or not.
 use mathlib.Core.Bool.{Bool, true, false}
-use mathlib.Core.Path.{_≡_}
+use mathlib.Core.Path.{_≡_, refl}
 use Prim.Native.Nat.{ℕ}
 use Rattle.layout.specs.declared.Name.{Name}
 use Rattle.layout.specs.declared.Name.the-variants.{Is, Refused}
@@ -35,19 +35,24 @@ module _ {A : Type 0} where
   unfolding found
   found-nothing f missing rest p = rw (p, found)
 
-  -- what holds of each answer holds of the call
+  -- what holds of each answer holds of the call; each case is told which way its row went
   module _ (P : A → Type 0) where
-    pub by-check : (b : Bool) (answer : A) (rest : Unit {0} → A) → P answer → P (rest tt) → P (check b answer rest)
+    pub by-check : (b : Bool) (answer : A) (rest : Unit {0} → A) → (b ≡ true → P answer) → (b ≡ false → P (rest tt)) → P (check b answer rest)
     unfolding check
-    by-check true answer rest p q = p
-    by-check false answer rest p q = q
+    by-check true answer rest p q = p refl
+    by-check false answer rest p q = q refl
 
-    pub by-named : (n : Name) (refusal : ℕ → A) (rest : (ℕ → ℕ) → A) → ((status : ℕ) → P (refusal status)) → ((w : ℕ → ℕ) → P (rest w)) → P (named n refusal rest)
+    pub by-name : (n : Name) (refusal : ℕ → A) (rest : (ℕ → ℕ) → A)
+        → ((status : ℕ) → n ≡ Refused status → P (refusal status)) → ((a e : ℕ) → n ≡ Is a e → P (rest (nameByte a e))) → P (named n refusal rest)
     unfolding named
-    by-named (Is a e) refusal rest p q = q (nameByte a e)
-    by-named (Refused status) refusal rest p q = p status
+    by-name (Is a e) refusal rest p q = q a e refl
+    by-name (Refused status) refusal rest p q = p status refl
 
-    pub by-found : (f : Found) (missing : A) (rest : ℕ → A) → P missing → ((s : ℕ) → P (rest s)) → P (found f missing rest)
+    -- where the refusal's number does not matter
+    pub by-named : (n : Name) (refusal : ℕ → A) (rest : (ℕ → ℕ) → A) → ((status : ℕ) → P (refusal status)) → ((a e : ℕ) → n ≡ Is a e → P (rest (nameByte a e))) → P (named n refusal rest)
+    by-named n refusal rest p q = by-name n refusal rest (λ status _. p status) q
+
+    pub by-found : (f : Found) (missing : A) (rest : ℕ → A) → (f ≡ Nothing → P missing) → ((s : ℕ) → f ≡ At s → P (rest s)) → P (found f missing rest)
     unfolding found
-    by-found (At s) missing rest p q = q s
-    by-found Nothing missing rest p q = p
+    by-found (At s) missing rest p q = q s refl
+    by-found Nothing missing rest p q = p refl

@@ -18,6 +18,7 @@ use Rattle.layout.specs.Volume.{dataSector, free, good, useAll}
 use Rattle.layout.specs.Directory.{flag, putFlag, deleted, reached}
 use Rattle.layout.specs.File.{owner, cleanFree, chain, restore}
 use Rattle.layout.specs.Channels.{stateOf}
+use Rattle.layout.proofs.Check.{by-check}
 use Rattle.layout.proofs.Logic.{and-left}
 use Rattle.layout.proofs.Chain.{fits-data, fits-owner}
 use Rattle.layout.proofs.Good.{good-facts}
@@ -32,7 +33,6 @@ use Rattle.theory.proofs.Delete.{Marked, clean-free}
 use Rattle.theory.proofs.Step.{Step, step-none, step-join}
 use Rattle.theory.proofs.Effect.{step-of, keep-table}
 use Rattle.theory.proofs.PutStep.{Writable, writable-facts, put-step}
-use Rattle.theory.proofs.Checks.{by-check}
 use Rattle.theory.proofs.CommandStep.{flagged, flag-apart, open-step, close-step, status-step, rename-step, delete-step, flag-step, format-step}
 
 module _ (g : Geometry) (s : ℕ) (z : s < 64) (roomy : 0 < g .room) where

@@ -8,7 +8,6 @@ pub mod Give
 pub mod Delete
 pub mod Step
 pub mod Effect
-pub mod Checks
 pub mod Reading
 pub mod Gets
 pub mod Change

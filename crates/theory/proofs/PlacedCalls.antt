@@ -20,6 +20,7 @@ use Rattle.layout.specs.File.{used, clean, cleanFree, chain, freeChain, delete,
 use Rattle.layout.specs.Channels.{stateOf}
 use Rattle.layout.specs.Names.{nameByte}
 use Rattle.layout.proofs.Logic.{and-left}
+use Rattle.layout.proofs.Check.{by-check, by-named, by-found}
 use Rattle.layout.proofs.Search.{first-most}
 use Rattle.layout.proofs.Data.{data-facts}
 use Rattle.layout.proofs.Chain.{fits-data}
@@ -35,7 +36,6 @@ use Rattle.theory.proofs.Sectors.{linkOf, used-used}
 use Rattle.theory.proofs.Give.{emptied-same}
 use Rattle.theory.proofs.Delete.{clean-used, clean-free, freed-table}
 use Rattle.theory.proofs.PutStep.{output-facts, writable-facts}
-use Rattle.theory.proofs.Checks.{by-check, by-named, by-found}
 use Rattle.theory.proofs.Placed.{Placed, placed-flag, placed-name, placed-free-all, placed-use-all, placed-give, placed-add, placed-fresh}
 
 -- the lowest free sector is one of the disk

@@ -17,13 +17,13 @@ use Rattle.layout.specs.Directory.{entry, flag, first, name, putFlag, putName, 
 use Rattle.layout.specs.File.{chain}
 use Rattle.layout.specs.Channels.{stateOf, held}
 use Rattle.layout.specs.Names.{nameByte, legal}
+use Rattle.layout.proofs.Check.{by-check, by-named, by-found}
 use Rattle.layout.proofs.Logic.{or-cases}
 use Rattle.layout.proofs.Channels.{none-open}
 use Rattle.rules.specs.Put.{isOutput}
 use Rattle.rules.specs.Commands.{Effect, closeState, closeCall, statusCall, renameCall, deleteCall, flagCall, lockCall, unlockCall, formatCall}
 use Rattle.rules.specs.Sound.{soundFlag, Stands, Sound}
 use Rattle.rules.proofs.Fresh.{sound-format}
-use Rattle.theory.proofs.Checks.{by-check, by-named, by-found}
 use Rattle.theory.proofs.Names.{legal-same, new-legal}
 use Rattle.theory.proofs.Standing.{same-as, stands-slot, stands-flag}
 use Rattle.theory.proofs.Find.{find-at, another-none}

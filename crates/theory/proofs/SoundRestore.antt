@@ -17,6 +17,7 @@ use Rattle.layout.specs.Directory.{flag, name, putFlag, deleted, standing, reac
 use Rattle.layout.specs.File.{owner, cleanFree, chain, restore}
 use Rattle.layout.specs.Channels.{holds, stateOf}
 use Rattle.layout.specs.Names.{legal}
+use Rattle.layout.proofs.Check.{by-check}
 use Rattle.layout.proofs.Logic.{and-left, and-right}
 use Rattle.layout.proofs.Good.{good-facts}
 use Rattle.layout.proofs.MapAll.{useAll-sector, useAll-in, useAll-out, useAll-good}
@@ -30,7 +31,6 @@ use Rattle.theory.proofs.Delete.{Marked, marked-of, clean-free, mark-da
 use Rattle.theory.proofs.Change.{Change}
 use Rattle.theory.proofs.SoundChange.{sound-change}
 use Rattle.theory.proofs.SoundDir.{quiet, on-chain}
-use Rattle.theory.proofs.Checks.{by-check}
 
 -- what a channel holds stands
 pub held-stands : (g : Geometry) (d : Disk) (t : Table) → Sound g d t → (s j : ℕ) → j < 8 → holds (stateOf t j) s ≡ true → Stands d s
