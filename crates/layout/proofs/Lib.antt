@@ -1,6 +1,7 @@
 pub mod Logic
 pub mod Search
 pub mod Update
+pub mod Give
 pub mod Data
 pub mod Check
 pub mod Image
