@@ -17,7 +17,7 @@ ghost use Rattle.rules.specs.Recovery.{recoverable, recover, recoverCall};
 // At most 63, not past the first zero flag, with $80.
 fn recoverable(image: &[u8], slot: u16) -> bool
     requires { ⌜ length (now image) ≡ 92160 ⌝ }
-    ensures { λ r. ⌜ r ≡ recoverable single (view single (now (image .entry))) slot ⌝ }
+    ensures { λ r. ⌜ r ≡ recoverable (view single (now (image .entry))) slot ⌝ }
 {
     if 64 <= slot {
         return false;

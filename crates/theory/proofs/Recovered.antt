@@ -61,7 +61,7 @@ module _ (g : Geometry) (d : Disk) (s : ℕ) (given : List ℕ) (y : System) (le
   e = y .disk
 
   -- the slot may be recovered
-  may : recoverable g e s ≡ true
+  may : recoverable e s ≡ true
   unfolding recoverable reached nonzero deleted isSet bit
   may = rw (lt-ltb s 64 (left .slot), left .flagged) (all-of (nonzero e) s (λ x l. ap not (ne-eqb (flag e x) 0 (λ q. omega (arith, sym (left .flagged) ∙ left .sound .zeros x s l (left .slot) q)))))
 

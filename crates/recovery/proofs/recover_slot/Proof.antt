@@ -16,7 +16,7 @@ use Rattle.recovery.proofs.recover_slot.Statement.{statement}
 use Rattle.recovery.proofs.recover_slot.Tie as tie
 
 -- the rows that a recovery passes
-row-1 : (c : tie.Else1) → (let a = c .before .before .before .before .args in not (recoverable single (view single (a .image .now)) (a .slot)) ≡ false)
+row-1 : (c : tie.Else1) → (let a = c .before .before .before .before .args in not (recoverable (view single (a .image .now)) (a .slot)) ≡ false)
 row-1 c = ap not (sym (c .before .recoverable .ensures)) ∙ c .if1 .left
 
 row-2 : (c : tie.Else2) → not (good (view single (c .before .before .before .before .before .before .before .args .image .now) 360)) ≡ false
@@ -33,7 +33,7 @@ row-5 c = ap not (sym (c .before .clean-free .ensures)) ∙ c .if5 .left
 
 -- the slot is one of the 64
 slot : (c : tie.Else1) → c .before .before .before .before .args .slot < 64
-slot c = recoverable-slot _ _ _ (not-false _ (row-1 c))
+slot c = recoverable-slot _ _ (not-false _ (row-1 c))
 
 recoverable-requires : tie.Need-recoverable-requires
 recoverable-requires c κs = search needs
