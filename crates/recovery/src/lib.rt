@@ -1,4 +1,5 @@
 // Recovery of a deleted file.
+use answers::reply;
 use channels::slots::deleted;
 use directory::find::has_double;
 use directory::flags::reached;
@@ -24,13 +25,6 @@ fn recoverable(image: &[u8], slot: u16) -> bool
     }
     let f = flag(image, slot);
     deleted(f) & reached(image, slot)
-}
-
-// An answer.
-fn reply(status: u8, count: usize) -> Reply
-    ensures { λ r. ⌜ r ≡ record { status = status; count = count } ⌝ }
-{
-    Reply { status, count }
 }
 
 // Recovery on an image of 92,160 bytes.

@@ -1,4 +1,5 @@
 // The two SIO sector commands: read $52, write $50 or $57.
+use answers::reply;
 use layout::status;
 use rules::Reply;
 use runs::run::get_run;
@@ -22,13 +23,6 @@ fn is_request(command: u8, number: u16) -> bool
     ensures { λ r. ⌜ r ≡ isRequest command number ⌝ }
 {
     ((command == 0x52) | is_write(command)) & ((1 <= number) & (number <= 720))
-}
-
-// An answer.
-fn reply(status: u8, count: usize) -> Reply
-    ensures { λ r. ⌜ r ≡ record { status = status; count = count } ⌝ }
-{
-    Reply { status, count }
 }
 
 // All bytes of a sector, in a buffer of that length.
