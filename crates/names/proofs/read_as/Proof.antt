@@ -28,7 +28,12 @@ name-at-requires c κs = search needs
 
 returns-3 : tie.Need-returns-3
 unfolding readAs
-returns-3 c = c .name-at .ensures ∙ ap (nameAt _ _) (c .before .body .ensures .0) ∙ sym (check-no _ _ _ (ap not (sym (c .before .before .before .before .before .has-device .ensures)) ∙ c .before .before .before .before .if1 .left) ∙ check-no _ _ _ (ap not (sym (c .before .before .before .has-unit .ensures)) ∙ c .before .before .if2 .left))
+returns-3 c =
+    let unit = c .before .before in
+    let device = unit .before .before in
+    let p = ap not (sym (device .before .has-device .ensures)) ∙ device .if1 .left in
+    let q = ap not (sym (unit .before .has-unit .ensures)) ∙ unit .if2 .left in
+    c .name-at .ensures ∙ ap (nameAt _ _) (c .before .body .ensures .0) ∙ sym (check-no _ _ _ p ∙ check-no _ _ _ q)
 
 pub read-as-spec : {M : Type 1} → statement M
 read-as-spec =

@@ -31,11 +31,25 @@ ending-requires c κs = search needs
 
 returns-3 : tie.Need-returns-3
 unfolding readDevice
-returns-3 c = sym (check-no _ _ _ (ap not (sym (c .before .before .before .before .before .before .before .has-device .ensures)) ∙ c .before .before .before .before .before .before .if1 .left) ∙ check-no _ _ _ (ap not (sym (c .before .before .before .before .before .has-unit .ensures)) ∙ c .before .before .before .before .if2 .left) ∙ check-yes _ _ _ (ap not (sym (c .before .ending .ensures ∙ ap ending (c .before .before .char .ensures ∙ ap (char _) (c .before .before .before .body .ensures .0)))) ∙ c .if3 .taken))
+returns-3 c =
+    let body = c .before .before .before in
+    let unit = body .before in
+    let device = unit .before .before in
+    let p = ap not (sym (device .before .has-device .ensures)) ∙ device .if1 .left in
+    let q = ap not (sym (unit .before .has-unit .ensures)) ∙ unit .if2 .left in
+    let e = c .before .ending .ensures ∙ ap ending (c .before .before .char .ensures ∙ ap (char _) (body .body .ensures .0)) in
+    sym (check-no _ _ _ p ∙ check-no _ _ _ q ∙ check-yes _ _ _ (ap not (sym e) ∙ c .if3 .taken))
 
 returns-4 : tie.Need-returns-4
 unfolding readDevice
-returns-4 c = sym (check-no _ _ _ (ap not (sym (c .before .before .before .before .before .before .before .has-device .ensures)) ∙ c .before .before .before .before .before .before .if1 .left) ∙ check-no _ _ _ (ap not (sym (c .before .before .before .before .before .has-unit .ensures)) ∙ c .before .before .before .before .if2 .left) ∙ check-no _ _ _ (ap not (sym (c .before .ending .ensures ∙ ap ending (c .before .before .char .ensures ∙ ap (char _) (c .before .before .before .body .ensures .0)))) ∙ c .if3 .left))
+returns-4 c =
+    let body = c .before .before .before in
+    let unit = body .before in
+    let device = unit .before .before in
+    let p = ap not (sym (device .before .has-device .ensures)) ∙ device .if1 .left in
+    let q = ap not (sym (unit .before .has-unit .ensures)) ∙ unit .if2 .left in
+    let e = c .before .ending .ensures ∙ ap ending (c .before .before .char .ensures ∙ ap (char _) (body .body .ensures .0)) in
+    sym (check-no _ _ _ p ∙ check-no _ _ _ q ∙ check-no _ _ _ (ap not (sym e) ∙ c .if3 .left))
 
 pub read-device-spec : {M : Type 1} → statement M
 read-device-spec =

@@ -22,13 +22,19 @@ row-1 c = ap not (sym (c .before .recoverable .ensures)) ∙ c .if1 .left
 row-2 : (c : tie.Else2) → not (good (view single (c .before .before .before .before .before .before .before .args .image .now) 360)) ≡ false
 row-2 c = ap not (sym (c .before .table-good .ensures)) ∙ c .if2 .left
 
-row-3 : (c : tie.Else3) → (let a = c .before .before .before .before .before .before .before .before .before .before .args in not (legal (name (view single (a .image .now)) (a .slot))) ≡ false)
+row-3 : (c : tie.Else3)
+    → (let a = c .before .before .before .before .before .before .before .before .before .before .args in
+    not (legal (name (view single (a .image .now)) (a .slot))) ≡ false)
 row-3 c = ap not (sym (c .before .legal .ensures)) ∙ c .if3 .left
 
-row-4 : (c : tie.Else4) → (let a = c .before .before .before .before .before .before .before .before .before .before .before .before .before .args in another (view single (a .image .now)) (name (view single (a .image .now)) (a .slot)) (a .slot) ≡ false)
+row-4 : (c : tie.Else4)
+    → (let a = c .before .before .before .before .before .before .before .before .before .before .before .before .before .args in
+    another (view single (a .image .now)) (name (view single (a .image .now)) (a .slot)) (a .slot) ≡ false)
 row-4 c = sym (c .before .has-double .ensures) ∙ c .if4 .left
 
-row-5 : (c : tie.Else5) → (let a = c .before .before .before .before .before .before .before .before .before .before .before .before .before .before .before .before .args in not (cleanFree single (view single (a .image .now)) (a .slot)) ≡ false)
+row-5 : (c : tie.Else5)
+    → (let a = c .before .before .before .before .before .before .before .before .before .before .before .before .before .before .before .before .args in
+    not (cleanFree single (view single (a .image .now)) (a .slot)) ≡ false)
 row-5 c = ap not (sym (c .before .clean-free .ensures)) ∙ c .if5 .left
 
 -- the slot is one of the 64
@@ -60,7 +66,9 @@ same-length-2 c = search needs
 
 returns-2 : tie.Need-returns-2
 unfolding recover
-returns-2 c = let e = check-no {A = Recovered} _ _ _ (row-1 (c .before .before .before .before)) ∙ check-yes {A = Recovered} _ _ _ (ap not (sym (c .before .before .table-good .ensures)) ∙ c .before .if2 .taken) in
+returns-2 c =
+    let e = check-no {A = Recovered} _ _ _ (row-1 (c .before .before .before .before))
+    ∙ check-yes {A = Recovered} _ _ _ (ap not (sym (c .before .before .table-good .ensures)) ∙ c .before .if2 .taken) in
     (c .reply2 .ensures ∙ ap (λ o. o .reply) (sym e), ap (λ o. o .disk) (sym e))
 
 legal-requires : tie.Need-legal-requires
@@ -75,8 +83,9 @@ same-length-3 c = search needs
 returns-3 : tie.Need-returns-3
 unfolding recover
 returns-3 c =
-    let at = c .before .before .before .before in
-    let e = check-no {A = Recovered} _ _ _ (row-1 (at .before .before .before)) ∙ check-no {A = Recovered} _ _ _ (row-2 at) ∙ check-yes {A = Recovered} _ _ _ (ap not (sym (c .before .before .legal .ensures)) ∙ c .before .if3 .taken) in
+    let table = c .before .before .before .before in
+    let e = check-no {A = Recovered} _ _ _ (row-1 (table .before .before .before)) ∙ check-no {A = Recovered} _ _ _ (row-2 table)
+    ∙ check-yes {A = Recovered} _ _ _ (ap not (sym (c .before .before .legal .ensures)) ∙ c .before .if3 .taken) in
     (c .reply3 .ensures ∙ ap (λ o. o .reply) (sym e), ap (λ o. o .disk) (sym e))
 
 has-double-requires : tie.Need-has-double-requires
@@ -91,8 +100,9 @@ same-length-4 c = search needs
 returns-4 : tie.Need-returns-4
 unfolding recover
 returns-4 c =
-    let at = c .before .before .before .before in
-    let e = check-no {A = Recovered} _ _ _ (row-1 (at .before .before .before .before .before .before)) ∙ check-no {A = Recovered} _ _ _ (row-2 (at .before .before .before)) ∙ check-no {A = Recovered} _ _ _ (row-3 at)
+    let named = c .before .before .before .before in
+    let table = named .before .before .before in
+    let e = check-no {A = Recovered} _ _ _ (row-1 (table .before .before .before)) ∙ check-no {A = Recovered} _ _ _ (row-2 table) ∙ check-no {A = Recovered} _ _ _ (row-3 named)
     ∙ check-yes {A = Recovered} _ _ _ (sym (c .before .before .has-double .ensures) ∙ c .before .if4 .taken) in
     (c .reply4 .ensures ∙ ap (λ o. o .reply) (sym e), ap (λ o. o .disk) (sym e))
 
@@ -108,9 +118,11 @@ same-length-5 c = search needs
 returns-5 : tie.Need-returns-5
 unfolding recover
 returns-5 c =
-    let at = c .before .before .before .before in
-    let e = check-no {A = Recovered} _ _ _ (row-1 (at .before .before .before .before .before .before .before .before .before)) ∙ check-no {A = Recovered} _ _ _ (row-2 (at .before .before .before .before .before .before)) ∙ check-no {A = Recovered} _ _ _ (row-3 (at .before .before .before))
-    ∙ check-no {A = Recovered} _ _ _ (row-4 at) ∙ check-yes {A = Recovered} _ _ _ (ap not (sym (c .before .before .clean-free .ensures)) ∙ c .before .if5 .taken) in
+    let alone = c .before .before .before .before in
+    let named = alone .before .before .before in
+    let table = named .before .before .before in
+    let e = check-no {A = Recovered} _ _ _ (row-1 (table .before .before .before)) ∙ check-no {A = Recovered} _ _ _ (row-2 table) ∙ check-no {A = Recovered} _ _ _ (row-3 named)
+    ∙ check-no {A = Recovered} _ _ _ (row-4 alone) ∙ check-yes {A = Recovered} _ _ _ (ap not (sym (c .before .before .clean-free .ensures)) ∙ c .before .if5 .taken) in
     (c .reply5 .ensures ∙ ap (λ o. o .reply) (sym e), ap (λ o. o .disk) (sym e))
 
 restore-requires : tie.Need-restore-requires
@@ -125,9 +137,12 @@ same-length-6 c = search needs
 returns-6 : tie.Need-returns-6
 unfolding recover
 returns-6 c =
-    let at = c .before .before .before .before .before in
-    let e = check-no {A = Recovered} _ _ _ (row-1 (at .before .before .before .before .before .before .before .before .before .before .before .before)) ∙ check-no {A = Recovered} _ _ _ (row-2 (at .before .before .before .before .before .before .before .before .before)) ∙ check-no {A = Recovered} _ _ _ (row-3 (at .before .before .before .before .before .before))
-    ∙ check-no {A = Recovered} _ _ _ (row-4 (at .before .before .before)) ∙ check-no {A = Recovered} _ _ _ (row-5 at) in
+    let clean = c .before .before .before .before .before in
+    let alone = clean .before .before .before in
+    let named = alone .before .before .before in
+    let table = named .before .before .before in
+    let e = check-no {A = Recovered} _ _ _ (row-1 (table .before .before .before)) ∙ check-no {A = Recovered} _ _ _ (row-2 table) ∙ check-no {A = Recovered} _ _ _ (row-3 named)
+    ∙ check-no {A = Recovered} _ _ _ (row-4 alone) ∙ check-no {A = Recovered} _ _ _ (row-5 clean) in
     (sym (ap (λ o. o .reply) e ∙ (cc)), c .before .before .before .restore .ensures .1 ∙ ap (λ o. o .disk) (sym e))
 
 pub recover-slot-spec : {M : Type 1} → statement M

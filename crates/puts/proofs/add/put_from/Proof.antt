@@ -93,11 +93,13 @@ loop-again c =
     let if1 = at .before .before .before .if1 in
     let add-run = c .before .before .add-run in
     let r = room .ensures .2 .room (if1 .left) in
-    let k = room .ensures .2 .kind (if1 .left) in (
+    let k = room .ensures .2 .kind (if1 .left) in
+    let n = at .least .ensures .2 (omega arith) (omega arith) in
+    let inv = at .before .before .before .before .before .before .before .before .before .loop .inv in (
       omega arith,
       k,
       rw (add-run .ensures) (searched-add single _ _ (room .ensures .3) _ _ k),
-      puts-run (at .before .before .before .before .before .before .before .before .before .loop .inv .3) _ _ (room .ensures .0) (room .ensures .1) (if1 .left) r (at .least .result) (at .least .ensures .2 (omega arith) (omega arith)) (omega arith) (omega arith) _ (add-run .ensures ∙ rw add-sub-cancel-left),
+      puts-run (inv .3) _ _ (room .ensures .0) (room .ensures .1) (if1 .left) r (at .least .result) n (omega arith) (omega arith) _ (add-run .ensures ∙ rw add-sub-cancel-left),
     )
 
 added-requires-2 : tie.Need-added-requires-2 Inv-loop μ-loop

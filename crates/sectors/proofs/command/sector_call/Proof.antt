@@ -5,7 +5,6 @@ use Rattle.layout.specs.Image.{single}
 use Rattle.layout.proofs.Check.{check-yes, check-no}
 use Rattle.layout.proofs.Image.{single-lawful, image-of}
 use Rattle.rules.specs.Sectors.{SectorOutcome, sectorCall}
-use Rattle.rules.specs.Sectors.{SectorOutcome}
 use borrow.Author.Needs.{needs}
 use Rattle.sectors.proofs.command.sector_call.Statement.{statement}
 use Rattle.sectors.proofs.command.sector_call.Tie as tie

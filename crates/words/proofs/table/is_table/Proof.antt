@@ -61,8 +61,26 @@ in-force-requires-8 c κs = search needs
 returns-2 : tie.Need-returns-2
 unfolding isTable kindInForce
 returns-2 c =
-    let args = c .before .before .before .before .before .before .before .before .before .before .before .before .before .before .before .before .before .before .args in
-    rw (eq-eqb (length (args .words .now)) 40 (c .before .before .before .before .before .before .before .before .before .before .before .before .before .before .before .before .if1 .left), c .before .before .before .before .before .before .before .before .before .before .before .before .before .before .in-force .ensures, c .before .before .before .before .before .before .before .before .before .before .before .before .in-force2 .ensures, c .before .before .before .before .before .before .before .before .before .before .in-force3 .ensures, c .before .before .before .before .before .before .before .before .in-force4 .ensures, c .before .before .before .before .before .before .in-force5 .ensures, c .before .before .before .before .in-force6 .ensures, c .before .before .in-force7 .ensures, c .in-force8 .ensures) (all-eight (kindInForce (args .words .now)))
+    let c7 = c .before .before in
+    let c6 = c7 .before .before in
+    let c5 = c6 .before .before in
+    let c4 = c5 .before .before in
+    let c3 = c4 .before .before in
+    let c2 = c3 .before .before in
+    let c1 = c2 .before .before in
+    let long = c1 .before .before in
+    let words = long .before .before .args .words .now in
+    rw (
+      eq-eqb (length words) 40 (long .if1 .left),
+      c1 .in-force .ensures,
+      c2 .in-force2 .ensures,
+      c3 .in-force3 .ensures,
+      c4 .in-force4 .ensures,
+      c5 .in-force5 .ensures,
+      c6 .in-force6 .ensures,
+      c7 .in-force7 .ensures,
+      c .in-force8 .ensures,
+    ) (all-eight (kindInForce words))
 
 pub is-table-spec : {M : Type 1} → statement M
 is-table-spec =
