@@ -10,7 +10,8 @@
  * input or output. All that a call reads or changes is lent to it:
  *
  *   image    the disk: 92,160 bytes, sectors 1 to 720 of 128 bytes in order,
- *            with no header. Any other length is refused with 203.
+ *            with no header. Any other length is refused with 203 (dos_show
+            answers a no).
  *   table    the eight channels: 40 words, see "The channel table".
  *   channel  one channel by itself (thin calls): its five words.
  *   name     a file name with its device and its ending byte, see "Names".
@@ -130,7 +131,8 @@ enum {
     DOS_BAD_TABLE = 163,       /* the disk's volume table is not good */
     DOS_BAD_CHAIN = 164,       /* the file's sectors or its channel do not fit together;
                                   of a get, count bytes came */
-    DOS_BAD_NAME = 165,        /* the name is malformed or has no ending byte */
+    DOS_BAD_NAME = 165,        /* the name is malformed or has no ending byte;
+                                  recovery: the name in the slot is not legal */
     DOS_FILE_LOCKED = 167,     /* the file is locked */
     DOS_NOT_SERVED = 168,      /* a command or an open direction that is not served */
     DOS_NO_SLOT = 169,         /* the directory is full */
@@ -158,9 +160,10 @@ enum {
  * count is the number of bytes that a get delivered or a put wrote, and 0 for
  * every other command. Name and buffer are looked at only by the commands that
  * use them. Only a get changes the buffer. Three refusals change something: a
- * get with 136 or 164 has delivered count bytes, moved its channel behind them
- * and left the rest of the buffer; a put with 162 has written the count bytes
- * that fitted; a close with 164 has closed its channel.
+ * get with 136 or 164 has delivered count bytes and left the rest of the
+ * buffer, and its channel stands at the end of the last sector entered, also
+ * where the count is 0; a put with 162 has written the count bytes that fitted;
+ * a close with 164 has closed its channel.
  */
 uint64_t dos_cio(uint8_t *image, size_t image_length,
                  uint16_t *table, size_t table_length,
@@ -185,10 +188,11 @@ uint64_t dos_sector(uint8_t *image, size_t image_length,
                     uint8_t *buffer, size_t buffer_length);
 
 /*
- * Where the data of one file sector stand in the image: a yes when a get for
- * that slot could enter the sector, else a no. Take the answer apart with
- * dos_shown, dos_shown_offset and dos_shown_length: 1 for a yes and 0 for a no
- * in the low eight bits, above them offset * 1024 + length. A no has both 0.
+ * Where the data of one file sector stand in the image: a yes when the image
+ * has its length and a get for that slot could enter the sector, else a no.
+ * Take the answer apart with dos_shown, dos_shown_offset and dos_shown_length:
+ * 1 for a yes and 0 for a no in the low eight bits, above them
+ * offset * 1024 + length. A no has both 0.
  */
 uint64_t dos_show(const uint8_t *image, size_t image_length, uint8_t slot, uint16_t sector);
 

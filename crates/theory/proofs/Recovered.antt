@@ -1,20 +1,22 @@
 -- The recovery of a deleted slot s on a sound disk e, after steps that spared it: its answer, and what it leaves.
-use mathlib.Core.Bool.{Bool, true, false, not, Bool·beq, true≢false}
+use mathlib.Core.Bool.{Bool, true, false, not, _&&_, Bool·beq, true≢false}
 use mathlib.Core.Logic.{_≢_}
 use mathlib.Core.List.{List}
 use mathlib.Core.Path.{_≡_, refl, sym, ap, _∙_}
 use Prim.Native.Nat.{ℕ, _<_}
+use native.Mathlib.Decide.{ℕ-discrete}
 use native.Mathlib.Omega.{arith}
 use lib.ListN.{length}
-use borrow.Author.Tests.{ne-eqb, lt-ltb}
+use lib.Dec.{ltb}
+use borrow.Author.Tests.{ne-eqb, lt-ltb, ltb-true, not-false}
 use Rattle.layout.specs.Basics.{check, member}
 use Rattle.layout.specs.Image.{Disk, Geometry}
 use Rattle.layout.specs.Volume.{bit, isSet, free, useAll, bitChanged, bitsChanged}
 use Rattle.layout.specs.Directory.{flag, name, sameName, deleted, standing, reached, nonzero, another}
 use Rattle.layout.specs.File.{cleanFree, chain, file, restore}
 use Rattle.layout.specs.Names.{legal}
-use Rattle.layout.proofs.Logic.{true-beq}
-use Rattle.layout.proofs.Check.{check-yes, check-no}
+use Rattle.layout.proofs.Logic.{true-beq, and-left}
+use Rattle.layout.proofs.Check.{check-yes, check-no, by-check}
 use Rattle.layout.proofs.Count.{members-count}
 use Rattle.layout.proofs.Data.{data-facts}
 use Rattle.layout.proofs.MapAll.{useAll-sector}
@@ -23,10 +25,11 @@ use Rattle.rules.specs.Recovery.{Recovered, recovered, recoverable, recover}
 use Rattle.rules.specs.Sound.{Stands, SameName, Sound}
 use Rattle.rules.specs.Demand.{System, recoveryOf, recovering, Unnamed, perform, Untouched, Recovers}
 use Rattle.theory.proofs.Names.{legal-same}
-use Rattle.theory.proofs.Standing.{stands-flag, same-bytes, bytes-same}
+use Rattle.theory.proofs.Row.{row, same-flag, same-name, flag-is}
+use Rattle.theory.proofs.Standing.{stands-slot, stands-flag, stands-before, stands-of, same-bytes, bytes-same}
 use Rattle.theory.proofs.Find.{another-some, another-none}
 use Rattle.theory.proofs.Step.{Step, kept-chain, kept-clean, kept-file, clean-kept}
-use Rattle.theory.proofs.Delete.{chain-is, Marked, clean-used, clean-free, mark-file, restore-is, restore-used, restore-other}
+use Rattle.theory.proofs.Delete.{chain-is, Marked, clean-used, clean-free, mark-other, mark-name, mark-file, restore-is, restore-used, restore-other}
 
 -- the number of sectors taken back is that of the map bits that changed
 module _ (g : Geometry) (d : Disk) (s : ℕ) (z : s < 64) (k : Marked g d s true (chain g d s)) where
@@ -41,6 +44,48 @@ module _ (g : Geometry) (d : Disk) (s : ℕ) (z : s < 64) (k : Marked g d s true
   pub restore-changes : bitsChanged (d 360) (restore g d s 360) ≡ length (chain g d s)
   unfolding bitsChanged
   restore-changes = members-count (chain g d s) (bitChanged (d 360) (restore g d s 360)) 720 (k .distinct) (λ x m. data-facts x (k .datas x m) .top) (λ x _. changed-bit x)
+
+-- on any disk: a recovery that answers 1 reports the number of map bits that changed
+pub recover-changes : (g : Geometry) (d : Disk) (s : ℕ) → recover g d s .reply .status ≡ 1 → recover g d s .reply .count ≡ bitsChanged (d 360) (recover g d s .disk 360)
+unfolding recover recoverable
+recover-changes g d s = by-check P _ _ _ (λ _ q. absurd (omega arith)) λ h. by-check P _ _ _ (λ _ q. absurd (omega arith)) λ _. by-check P _ _ _ (λ _ q. absurd (omega arith)) λ _.
+    by-check P _ _ _ (λ _ q. absurd (omega arith)) λ _. by-check P _ _ _ (λ _ q. absurd (omega arith)) λ c _.
+    sym (restore-changes g d s (ltb-true s 64 (and-left (ltb s 64) (deleted (flag d s) && reached d s) (not-false (recoverable d s) h))) (clean-free g d s (not-false (cleanFree g d s) c)))
+  where
+    P : Recovered → Type 0
+    P r = r .reply .status ≡ 1 → r .reply .count ≡ bitsChanged (d 360) (r .disk 360)
+
+-- a recovery's slot stands where no flag before it is zero, and every other standing slot stands on; each has its name
+module _ (g : Geometry) (d : Disk) (s : ℕ) (z : s < 64) where
+  abbrev used : Disk
+  used = useAll (chain g d s) d
+
+  restore-name : (j : ℕ) → j < 11 → name (restore g d s) s j ≡ name d s j
+  restore-name j l = rw (restore-is g d s) (mark-name d used (useAll-sector (chain g d s) d) s 0x42 z j l)
+
+  restore-row : (x : ℕ) → x ≢ s → row (restore g d s) x ≡ row d x
+  restore-row x n = rw (restore-is g d s) (mark-other d used (useAll-sector (chain g d s) d) s 0x42 z x n)
+
+  restore-flag : flag (restore g d s) s ≡ 0x42
+  restore-flag = rw (restore-is g d s) (flag-is used s 0x42)
+
+  restore-nonzero : (x : ℕ) → (x ≢ s → flag d x ≢ 0) → flag (restore g d s) x ≢ 0
+  restore-nonzero x h q = go (ℕ-discrete x s)
+    where
+      go : Dec (x ≡ s) → ⊥
+      go (yes i) = let f = restore-flag in omega (arith, ap (flag (restore g d s)) (sym i) ∙ q)
+      go (no n) = h n (sym (same-flag d (restore g d s) x (restore-row x n)) ∙ q)
+
+  restore-stands : ((x : ℕ) → x < s → flag d x ≢ 0) → Stands (restore g d s) s
+  unfolding standing isSet bit
+  restore-stands before = stands-of (restore g d s) s z (rw restore-flag) (λ x l. restore-nonzero x (λ _. before x l))
+
+  restore-standing : (x : ℕ) → x ≢ s → Stands d x → Stands (restore g d s) x × SameName (restore g d s) x d x
+  restore-standing x n v =
+      let r = restore-row x n in (
+        stands-of (restore g d s) x (stands-slot d x v) (ap standing (same-flag d (restore g d s) x r) ∙ stands-flag d x v) (λ y l. restore-nonzero y (λ _. stands-before d x v y l)),
+        bytes-same (restore g d s) x (name d x) (same-name d (restore g d s) x r),
+      )
 
 -- what a delete on disk d left of slot s, on disk d1, and a list of calls that spared it left on y
 pub record Left (g : Geometry) (d : Disk) (s : ℕ) (given : List ℕ) (y : System) : Type 0 where
@@ -60,10 +105,14 @@ module _ (g : Geometry) (d : Disk) (s : ℕ) (given : List ℕ) (y : System) (le
   abbrev e : Disk
   e = y .disk
 
+  -- no flag before the slot's is zero
+  before : (x : ℕ) → x < s → flag e x ≢ 0
+  before x l q = omega (arith, sym (left .flagged) ∙ left .sound .zeros x s l (left .slot) q)
+
   -- the slot may be recovered
   may : recoverable e s ≡ true
   unfolding recoverable reached nonzero deleted isSet bit
-  may = rw (lt-ltb s 64 (left .slot), left .flagged) (all-of (nonzero e) s (λ x l. ap not (ne-eqb (flag e x) 0 (λ q. omega (arith, sym (left .flagged) ∙ left .sound .zeros x s l (left .slot) q)))))
+  may = rw (lt-ltb s 64 (left .slot), left .flagged) (all-of (nonzero e) s (λ x l. ap not (ne-eqb (flag e x) 0 (before x l))))
 
   rest : recover g e s ≡ check (another e (name e s) s) (recovered 201 0 e) (λ _. check (not (cleanFree g e s)) (recovered 202 0 e) λ _. recovered 1 (length (chain g e s)) (restore g e s))
   unfolding recover
@@ -88,7 +137,9 @@ module _ (g : Geometry) (d : Disk) (s : ℕ) (given : List ℕ) (y : System) (le
   clashes : another e (name e s) s ≡ true → Answers (recovered 201 0 e)
   clashes t = record {
     exactly = (λ q. absurd (omega arith), λ q. absurd (has (q .1)));
+    stands = λ q. absurd (omega arith);
     bytes = λ q. absurd (omega arith);
+    standing = λ q. absurd (omega arith);
     others = λ q. absurd (omega arith);
     sound = λ q. absurd (omega arith);
     number = λ q. absurd (omega arith);
@@ -108,7 +159,9 @@ module _ (g : Geometry) (d : Disk) (s : ℕ) (given : List ℕ) (y : System) (le
     loses : cleanFree g e s ≡ false → Answers (recovered 202 0 e)
     loses h = record {
       exactly = (λ q. absurd (omega arith), λ q. absurd (true≢false (sym (kept-clean g s (left .deleted) e (chain g d s) given (left .freed) (left .steps) (q .0)) ∙ h)));
+      stands = λ q. absurd (omega arith);
       bytes = λ q. absurd (omega arith);
+      standing = λ q. absurd (omega arith);
       others = λ q. absurd (omega arith);
       sound = λ q. absurd (omega arith);
       number = λ q. absurd (omega arith);
@@ -121,7 +174,9 @@ module _ (g : Geometry) (d : Disk) (s : ℕ) (given : List ℕ) (y : System) (le
     returns : cleanFree g e s ≡ true → Sound g (restore g e s) (y .table) → Answers (recovered 1 (length (chain g e s)) (restore g e s))
     returns h a = record {
       exactly = (λ q. (none, unnamed), λ q. refl);
+      stands = λ q. (restore-stands g e s (left .slot) before, bytes-same (restore g e s) s (name d s) (λ j l. restore-name g e s (left .slot) j l ∙ left .named j l));
       bytes = λ q. stays s true (chain g e s) k ∙ kept-file g s (left .deleted) e (chain g d s) given (left .freed) (left .steps) none ∙ left .bytes;
+      standing = λ q x v. restore-standing g e s (left .slot) x (not-self x v) v;
       others = λ q x v. stays x false (chain g e x) (clean-used g e x (left .sound .chains x v));
       sound = λ q. a;
       number = λ q. ap length (chain-is g e s (chain g d s) (kept-chain g s (left .deleted) e (chain g d s) given (left .freed) (left .steps) none));
