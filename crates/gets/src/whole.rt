@@ -17,6 +17,17 @@ pub struct Filled {
     pub count: usize,
 }
 
+// The end of a sector, with what is left and what is filled there.
+fn end_of(sector: u16, left: u16, count: usize) -> Filled
+    ensures { λ r. ⌜ r ≡ record { sector = sector; left = left; count = count } ⌝ }
+{
+    Filled {
+        sector,
+        left,
+        count,
+    }
+}
+
 // A sector fits, and has no room left.
 fn is_full(image: &[u8], slot: u16, sector: u16) -> bool
     requires { ⌜ length (now image) ≡ 92160 ⌝ }
@@ -47,29 +58,17 @@ fn get_consecutive(
     while (0 < l) & (125 <= buffer.len() - i) {
         let n = k + 1;
         if next(image, k) != n {
-            return Filled {
-                sector: k,
-                left: l,
-                count: i,
-            };
+            return end_of(k, l, i);
         }
         if !is_full(image, slot, n) {
-            return Filled {
-                sector: k,
-                left: l,
-                count: i,
-            };
+            return end_of(k, l, i);
         }
         get_run(image, n, 0, 125, buffer, i);
         k = n;
         l -= 1;
         i += 125;
     }
-    Filled {
-        sector: k,
-        left: l,
-        count: i,
-    }
+    end_of(k, l, i)
 }
 
 // Full sectors from the end of one on, wherever on the disk they are.
@@ -100,11 +99,7 @@ pub fn get_whole(
             i = w.count;
         } else {
             if !is_full(image, slot, n) {
-                return Filled {
-                    sector: k,
-                    left: l,
-                    count: i,
-                };
+                return end_of(k, l, i);
             }
             get_run(image, n, 0, 125, buffer, i);
             k = n;
@@ -112,9 +107,5 @@ pub fn get_whole(
             i += 125;
         }
     }
-    Filled {
-        sector: k,
-        left: l,
-        count: i,
-    }
+    end_of(k, l, i)
 }

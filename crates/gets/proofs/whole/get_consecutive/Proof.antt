@@ -37,20 +37,26 @@ add-n c = search needs
 next-requires : tie.Need-next-requires Inv-loop μ-loop
 next-requires c κs = search needs
 
+end-of-requires : tie.Need-end-of-requires Inv-loop μ-loop
+end-of-requires c κs = search needs
+
 same-length : tie.Need-same-length Inv-loop μ-loop
 same-length c = search needs
 
 returns : tie.Need-returns Inv-loop μ-loop
-returns c = let inv = c .before .before .before .loop .inv in (inv .1, inv .2)
+returns c = let inv = c .before .before .before .before .loop .inv in rw (c .end-of .ensures) (inv .1, inv .2)
 
 is-full-requires : tie.Need-is-full-requires Inv-loop μ-loop
 is-full-requires c κs = search needs
+
+end-of-requires-2 : tie.Need-end-of-requires-2 Inv-loop μ-loop
+end-of-requires-2 c κs = search needs
 
 same-length-2 : tie.Need-same-length-2 Inv-loop μ-loop
 same-length-2 c = search needs
 
 returns-2 : tie.Need-returns-2 Inv-loop μ-loop
-returns-2 c = let inv = c .before .before .before .before .before .loop .inv in (inv .1, inv .2)
+returns-2 c = let inv = c .before .before .before .before .before .before .loop .inv in rw (c .end-of2 .ensures) (inv .1, inv .2)
 
 get-run-requires : tie.Need-get-run-requires Inv-loop μ-loop
 get-run-requires c κs =
@@ -78,11 +84,14 @@ loop-again c =
       gets-full (omega arith) (inv .2) (inv .1) (room .0) (omega arith) _ (sym (at .before .before .if1 .left) ∙ at .before .before .before .next .ensures) (sym (at .before .is-full .ensures) ∙ not-false _ (at .if2 .left)) _ (c .before .before .get-run .ensures),
     )
 
+end-of-requires-3 : tie.Need-end-of-requires-3 Inv-loop μ-loop
+end-of-requires-3 c κs = search needs
+
 same-length-3 : tie.Need-same-length-3 Inv-loop μ-loop
 same-length-3 c = search needs
 
 returns-3 : tie.Need-returns-3 Inv-loop μ-loop
-returns-3 c = let inv = c .before .loop .inv in (inv .1, inv .2)
+returns-3 c = let inv = c .before .before .loop .inv in rw (c .end-of3 .ensures) (inv .1, inv .2)
 
 pub get-consecutive-spec : {M : Type 1} → statement M
 get-consecutive-spec =
@@ -94,9 +103,11 @@ get-consecutive-spec =
     sub-loop
     add-n
     next-requires
+    end-of-requires
     same-length
     returns
     is-full-requires
+    end-of-requires-2
     same-length-2
     returns-2
     get-run-requires
@@ -104,5 +115,6 @@ get-consecutive-spec =
     add-i
     loop-less
     loop-again
+    end-of-requires-3
     same-length-3
     returns-3)

@@ -67,11 +67,14 @@ loop-again c =
 is-full-requires : tie.Need-is-full-requires Inv-loop μ-loop
 is-full-requires c κs = search needs
 
+end-of-requires : tie.Need-end-of-requires Inv-loop μ-loop
+end-of-requires c κs = search needs
+
 same-length-2 : tie.Need-same-length-2 Inv-loop μ-loop
 same-length-2 c = search needs
 
 returns-2 : tie.Need-returns-2 Inv-loop μ-loop
-returns-2 c = let inv = c .before .before .before .before .before .loop .inv in (inv .1, inv .2)
+returns-2 c = let inv = c .before .before .before .before .before .before .loop .inv in rw (c .end-of .ensures) (inv .1, inv .2)
 
 get-run-requires : tie.Need-get-run-requires Inv-loop μ-loop
 get-run-requires c κs =
@@ -99,11 +102,14 @@ loop-again-2 c =
       gets-full (omega arith) (inv .2) (inv .1) (room .0) (omega arith) _ (at .before .before .before .next .ensures) (sym (at .before .is-full .ensures) ∙ not-false _ (at .if3 .left)) _ (c .before .before .get-run .ensures),
     )
 
+end-of-requires-2 : tie.Need-end-of-requires-2 Inv-loop μ-loop
+end-of-requires-2 c κs = search needs
+
 same-length-3 : tie.Need-same-length-3 Inv-loop μ-loop
 same-length-3 c = search needs
 
 returns-3 : tie.Need-returns-3 Inv-loop μ-loop
-returns-3 c = let inv = c .before .loop .inv in (inv .1, inv .2)
+returns-3 c = let inv = c .before .before .loop .inv in rw (c .end-of2 .ensures) (inv .1, inv .2)
 
 pub get-whole-spec : {M : Type 1} → statement M
 get-whole-spec =
@@ -121,6 +127,7 @@ get-whole-spec =
     loop-less
     loop-again
     is-full-requires
+    end-of-requires
     same-length-2
     returns-2
     get-run-requires
@@ -128,5 +135,6 @@ get-whole-spec =
     add-i
     loop-less-2
     loop-again-2
+    end-of-requires-2
     same-length-3
     returns-3)
