@@ -58,18 +58,18 @@ statuses! {
     NoChannel = 161, "all eight channels are open";
     DiskFull = 162, "no sector is free";
     BadTable = 163, "the disk's volume table is damaged";
-    BadChain = 164, "the file's chain of sectors is damaged";
+    BadChain = 164, "the file's sectors, or its channel, do not fit together";
     BadName = 165, "the name is malformed: capitals and digits, a letter first, at most 8 and 3";
     FileLocked = 167, "the file is locked";
     NotServed = 168, "the command or direction is not served";
     NoSlot = 169, "the directory is full";
     NotFound = 170, "no file has this name";
-    FileHeld = 200, "the file is open";
+    FileHeld = 200, "the file is open, or for a format a channel";
     NameTaken = 201, "another file has this name";
     LostChain = 202, "not all sectors of the deleted file are still free and its own";
     BadImage = 203, "the image is not 92160 bytes long";
     BadLength = 204, "the buffer is not 128 bytes long";
-    BadArgument = 255, "a channel of no known kind, or a table of the wrong length";
+    BadArgument = 255, "a channel of no known kind, or a table, channel or name buffer of the wrong length";
 }
 
 impl Status {
@@ -126,6 +126,9 @@ pub struct Answer {
 
 impl Answer {
     /// Takes the word that a call of [`raw`](crate::raw) answers apart.
+    ///
+    /// # Panics
+    /// If its status is one that this version of the crate does not know; the linked archive is of another version then.
     pub fn from_word(word: u64) -> Answer {
         let number = (word & 255) as u8;
         let Some(status) = Status::from_number(number) else {
@@ -175,6 +178,13 @@ impl Error for Incomplete {
     }
 }
 
+/// The error of its status; the count is lost.
+impl From<Incomplete> for io::Error {
+    fn from(incomplete: Incomplete) -> io::Error {
+        incomplete.status.into()
+    }
+}
+
 impl From<Incomplete> for Status {
     fn from(incomplete: Incomplete) -> Status {
         incomplete.status
@@ -213,5 +223,6 @@ mod tests {
         let full = Answer::from_word(162 + 256 * 3).complete().unwrap_err();
         assert_eq!(full.to_string(), "no sector is free after 3 bytes");
         assert_eq!(Status::from(full), Status::DiskFull);
+        assert_eq!(io::Error::from(full).kind(), io::ErrorKind::StorageFull);
     }
 }

@@ -203,6 +203,21 @@ impl<B: AsMut<[u8]>> Disk<B> {
 
     /// Fills the buffer from a reading channel. At the file's end it is [`Incomplete`] with [`Status::EndOfFile`], and the
     /// rest of the buffer stays as it was.
+    ///
+    /// ```
+    /// # use hilugsaban::{Direction, Disk, Incomplete, Status};
+    /// # let mut disk = Disk::fresh();
+    /// # disk.open(0, Direction::Write, "A")?;
+    /// # disk.put(0, b"three")?;
+    /// # disk.close(0)?;
+    /// let mut buffer = *b"....";
+    /// disk.open(0, Direction::Read, "A")?;
+    /// assert_eq!(disk.get(0, &mut buffer)?, 4);
+    /// let end = Incomplete { status: Status::EndOfFile, count: 1 };
+    /// assert_eq!(disk.get(0, &mut buffer), Err(end));
+    /// assert_eq!(&buffer, b"ehre");
+    /// # Ok::<(), Box<dyn std::error::Error>>(())
+    /// ```
     pub fn get(&mut self, channel: u8, buffer: &mut [u8]) -> Result<usize, Incomplete> {
         self.cio(channel, command::GET, 0, &[], buffer).complete()
     }
@@ -210,6 +225,8 @@ impl<B: AsMut<[u8]>> Disk<B> {
     /// Adds bytes at the end of a writing channel's file. On a full disk it is [`Incomplete`] with [`Status::DiskFull`], and
     /// the bytes that fitted stay.
     pub fn put(&mut self, channel: u8, bytes: &[u8]) -> Result<usize, Incomplete> {
+        // A copy, since the archive takes one buffer for get and put alike, as memory that it may write: a shared slice must
+        // not be lent to it so, whatever a put does with it.
         self.cio(channel, command::PUT, 0, &[], &mut bytes.to_vec())
             .complete()
     }
@@ -248,11 +265,23 @@ impl<B: AsMut<[u8]>> Disk<B> {
     }
 
     /// Locks a file against writing, renaming and deleting.
+    ///
+    /// ```
+    /// # use hilugsaban::{Direction, Disk, Status};
+    /// # let mut disk = Disk::fresh();
+    /// # disk.open(0, Direction::Write, "A")?;
+    /// # disk.close(0)?;
+    /// disk.lock("A")?;
+    /// assert_eq!(disk.delete("A"), Err(Status::FileLocked));
+    /// disk.unlock("A")?;
+    /// assert_eq!(disk.delete("A"), Ok(()));
+    /// # Ok::<(), Status>(())
+    /// ```
     pub fn lock(&mut self, name: &str) -> Result<(), Status> {
         self.on_name(command::LOCK, name)
     }
 
-    /// Takes a lock off.
+    /// Takes a lock off, see [`Disk::lock`].
     pub fn unlock(&mut self, name: &str) -> Result<(), Status> {
         self.on_name(command::UNLOCK, name)
     }
@@ -318,7 +347,17 @@ impl<B: AsMut<[u8]>> Disk<B> {
     }
 
     /// Writes a sector from bytes of its size.
+    ///
+    /// ```
+    /// # use hilugsaban::{Disk, Status};
+    /// # let mut disk = Disk::fresh();
+    /// assert_eq!(disk.write_sector(720, &[0x5A; 128])?, 128);
+    /// assert_eq!(disk.image()[719 * 128..], [0x5A; 128]);
+    /// assert_eq!(disk.write_sector(720, b"short"), Err(Status::BadLength));
+    /// # Ok::<(), Status>(())
+    /// ```
     pub fn write_sector(&mut self, sector: u16, bytes: &[u8]) -> Result<usize, Status> {
+        // A copy for the same reason as in `put`.
         self.sector(
             SECTOR_DEVICE,
             SECTOR_UNIT,
@@ -330,6 +369,16 @@ impl<B: AsMut<[u8]>> Disk<B> {
     }
 
     /// A put on a channel that is not in the table, which it moves on. It copies the bytes once, [`Disk::put`] twice.
+    ///
+    /// ```
+    /// # use hilugsaban::{Direction, Disk};
+    /// # let mut disk = Disk::fresh();
+    /// disk.open(0, Direction::Write, "A")?;
+    /// let mut channel = disk.table().channel(0);
+    /// assert_eq!(disk.thin_put(&mut channel, &[7; 126])?, 126);
+    /// assert_eq!(channel.sector, 5);
+    /// # Ok::<(), Box<dyn std::error::Error>>(())
+    /// ```
     pub fn thin_put(&mut self, channel: &mut Channel, bytes: &[u8]) -> Result<usize, Incomplete> {
         let mut words = channel.words();
         let word = raw::thin_put(self.image.as_mut(), &mut words, bytes);

@@ -31,6 +31,11 @@
 //! only. It may begin with its device, `D:` or `D1:`; without one, `D:` is put before it. The ending byte that the library
 //! asks for is put behind it, so a name that holds an ending byte itself (0 or $9B) is refused as malformed.
 //!
+//! # Linking
+//!
+//! The build links `libcapi.a` from the repository's `target/staticlib`, where `rt staticlib capi` writes it, or from the
+//! folder that the environment variable `HILUGSABAN_LIB` names by an absolute path.
+//!
 //! # Exact calls
 //!
 //! [`Disk::cio`] lends every argument as it is, and [`raw`] has the functions of the archive over slices.

@@ -3,7 +3,7 @@
 use hilugsaban::{
     Channel, Direction, Disk, Incomplete, Status, CHANNELS, CLOSED, READING, WRITING,
 };
-use std::io::{ErrorKind, Read, Write};
+use std::io::{self, ErrorKind, Read, Write};
 
 /// Makes a file with these bytes.
 fn make(disk: &mut Disk<Vec<u8>>, name: &str, bytes: &[u8]) {
@@ -48,6 +48,8 @@ fn get_reports_what_came() {
     );
     assert_eq!(&bytes, b"abc..");
     assert_eq!(disk.get(7, &mut []), Ok(0));
+    let mut in_io = || -> io::Result<usize> { Ok(disk.get(7, &mut bytes)?) };
+    assert_eq!(in_io().unwrap_err().kind(), ErrorKind::UnexpectedEof);
 }
 
 #[test]
