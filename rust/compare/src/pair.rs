@@ -1,7 +1,7 @@
 //! Two sides that take the same steps, and what differs between them.
 
 use crate::side::Side;
-use crate::step::Step;
+use crate::step::{Call, Step};
 use crate::world::{Reply, World};
 
 /// The two sides, each with a world of its own.
@@ -41,18 +41,21 @@ impl<'a> Pair<'a> {
         &self.left_world
     }
 
-    /// Both sides take a step. Every byte is compared afterwards.
-    pub fn step(&mut self, step: &Step) -> Result<Option<Reply>, Difference> {
+    /// Both sides take a step. Every byte is compared afterwards; in a case that keeps a disk
+    /// sound, the disk must be so too.
+    pub fn step(&mut self, step: &Step, sound: bool) -> Result<Option<Reply>, Difference> {
         let left = self.left_world.run(self.left, step);
         let right = self.right_world.run(self.right, step);
         let same = left == right
             && self.left_world.image == self.right_world.image
             && self.left_world.table == self.right_world.table;
-        if same {
-            Ok(left)
-        } else {
-            Err(self.difference(left, right))
+        if !same {
+            return Err(self.difference(step, left, right));
         }
+        if sound && !self.left_world.is_sound() {
+            return Err(Difference(vec!["the disk is no longer sound".into()]));
+        }
+        Ok(left)
     }
 
     /// Both sides take the steps from the start, up to the first difference.
@@ -60,21 +63,22 @@ impl<'a> Pair<'a> {
         &mut self,
         start: &World,
         steps: &[Step],
+        sound: bool,
     ) -> Option<(usize, Difference)> {
         self.reset(start);
-        let failing = |(place, step)| Some((place, self.step(step).err()?));
+        let failing = |(place, step)| Some((place, self.step(step, sound).err()?));
         steps.iter().enumerate().find_map(failing)
     }
 
-    fn difference(&self, left: Option<Reply>, right: Option<Reply>) -> Difference {
+    fn difference(&self, step: &Step, left: Option<Reply>, right: Option<Reply>) -> Difference {
         let mut lines = Vec::new();
         if let (Some(left), Some(right)) = (left, right) {
             if left.answer != right.answer {
                 self.line(
                     &mut lines,
                     "answer",
-                    &text(left.answer),
-                    &text(right.answer),
+                    &text(step, left.answer),
+                    &text(step, right.answer),
                 );
             }
             self.places(&mut lines, &left.buffer, &right.buffer, |at| {
@@ -118,7 +122,18 @@ impl<'a> Pair<'a> {
     }
 }
 
-/// An answer as status and count.
-fn text(answer: u64) -> String {
-    format!("{} with {}", answer % 256, answer / 256)
+/// An answer as status and count; of a showing, as offset and length.
+fn text(step: &Step, answer: u64) -> String {
+    let (low, rest) = (answer % 256, answer / 256);
+    match step {
+        Step::Call {
+            call: Call::Show { .. },
+            ..
+        } if low == 1 => format!("yes, offset {}, length {}", rest / 1024, rest % 1024),
+        Step::Call {
+            call: Call::Show { .. },
+            ..
+        } => "no".into(),
+        _ => format!("{low} with {rest}"),
+    }
 }

@@ -1,13 +1,10 @@
 //! Many cases from one seed, up to the first difference.
 
-use model::disk::IMAGE;
-use model::sound::is_sound;
-
 use crate::generate::Generator;
 use crate::pair::{Difference, Pair};
 use crate::random::Random;
 use crate::statistics::Statistics;
-use crate::step::{Step, TABLE};
+use crate::step::Step;
 use crate::world::World;
 
 /// A case that ended in a difference.
@@ -17,6 +14,8 @@ pub struct Failure {
     /// The case's steps; the last one differs.
     pub steps: Vec<Step>,
     pub difference: Difference,
+    /// The case was to keep the disk sound.
+    pub sound: bool,
 }
 
 /// Runs cases until so many calls are made; answers how many.
@@ -44,10 +43,8 @@ fn run_case(
 ) -> Result<(), Box<Failure>> {
     let mut steps = Vec::new();
     while let Some(step) = generator.next(pair.world()) {
-        let mut outcome = pair.step(&step);
-        if generator.is_sound() && outcome.is_ok() && !sound(pair.world()) {
-            outcome = Err(Difference(vec!["the disk is no longer sound".into()]));
-        }
+        let sound = generator.is_sound();
+        let outcome = pair.step(&step, sound);
         *made += usize::from(matches!(step, Step::Call { .. }));
         steps.push(step);
         match outcome {
@@ -58,13 +55,10 @@ fn run_case(
                     calls: *made,
                     steps,
                     difference,
+                    sound,
                 }));
             }
         }
     }
     Ok(())
-}
-
-fn sound(world: &World) -> bool {
-    is_sound(&world.image[..IMAGE], &world.table[..TABLE])
 }

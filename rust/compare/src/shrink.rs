@@ -16,6 +16,9 @@ const CALLS_OF_OTHERS: usize = 20_000;
 pub struct Shrunk {
     pub steps: Vec<Step>,
     pub difference: Difference,
+    /// The disk had to stay sound. So it has to in what is left of the case, which like the whole
+    /// has no step but calls that cannot harm a disk.
+    pub sound: bool,
 }
 
 /// The shortest list that can be had from a failure, and from those of some seeds that follow:
@@ -41,6 +44,7 @@ fn shrink(pair: &mut Pair, failure: Failure) -> Shrunk {
     let mut best = Shrunk {
         steps: failure.steps,
         difference: failure.difference,
+        sound: failure.sound,
     };
     let mut tries = 0;
     loop {
@@ -65,11 +69,15 @@ fn keep(
     if *tries > TRIES {
         return false;
     }
-    let Some((place, difference)) = pair.first_difference(start, &steps) else {
+    let Some((place, difference)) = pair.first_difference(start, &steps, best.sound) else {
         return false;
     };
     steps.truncate(place + 1);
-    *best = Shrunk { steps, difference };
+    *best = Shrunk {
+        steps,
+        difference,
+        ..*best
+    };
     true
 }
 

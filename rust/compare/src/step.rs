@@ -1,7 +1,6 @@
 //! One step of a case: a call of the C interface, or a change by hand between two calls.
 //!
-//! A step is written as one line in the input syntax of `desk shell`. What that shell has no
-//! line for (another length of what is lent) is written as a comment in front of the call.
+//! A step is written as one line in the input syntax of `desk shell`.
 
 use std::fmt::{self, Display, Formatter};
 
@@ -138,8 +137,8 @@ impl Lengths {
 /// One step of a case.
 #[derive(Clone, Debug, PartialEq, Eq)]
 pub enum Step {
-    /// A fresh disk, and all channels closed.
-    Format,
+    /// A fresh disk, and all channels closed: where every case begins.
+    Fresh,
     /// One byte of a sector is set.
     Poke {
         sector: u16,
@@ -169,7 +168,7 @@ impl From<Call> for Step {
 impl Display for Step {
     fn fmt(&self, out: &mut Formatter) -> fmt::Result {
         match self {
-            Step::Format => write!(out, "format"),
+            Step::Fresh => write!(out, "fresh"),
             Step::Poke {
                 sector,
                 byte,
@@ -179,10 +178,7 @@ impl Display for Step {
             Step::Call { call, lengths } => {
                 if *lengths != Lengths::RIGHT {
                     let Lengths { image, table } = lengths;
-                    writeln!(
-                        out,
-                        "# lent next: {image} bytes of image, {table} words of table"
-                    )?;
+                    write!(out, "lent {image} {table} ")?;
                 }
                 write!(out, "{call}")
             }
@@ -289,6 +285,15 @@ mod tests {
             }
             .to_string(),
             "poke 4 127 9"
+        );
+        let lengths = Lengths {
+            image: 92_161,
+            table: 39,
+        };
+        let call = Call::Recover { slot: 3 };
+        assert_eq!(
+            Step::Call { call, lengths }.to_string(),
+            "lent 92161 39 recover 3"
         );
         let record = [1, 2, 3, 4, 5];
         assert_eq!(

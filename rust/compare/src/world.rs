@@ -1,6 +1,7 @@
 //! What a list of calls works on, and how a step runs on one side.
 
 use model::disk::{Disk, IMAGE};
+use model::sound::is_sound;
 
 use crate::side::Side;
 use crate::step::{Buffer, Call, Lengths, Step, TABLE};
@@ -45,6 +46,11 @@ impl World {
             .expect("the image has its length and more")
     }
 
+    /// Whether disk and channels are sound, as the model tells.
+    pub fn is_sound(&self) -> bool {
+        is_sound(&self.image[..IMAGE], &self.table[..TABLE])
+    }
+
     /// The record of a channel.
     pub fn record(&self, channel: usize) -> [u16; 5] {
         *self.table[5 * channel..]
@@ -61,7 +67,7 @@ impl World {
     /// Runs one step on a side. A step that is no call has no reply.
     pub fn run(&mut self, side: &dyn Side, step: &Step) -> Option<Reply> {
         match step {
-            Step::Format => {
+            Step::Fresh => {
                 *self = World::new();
                 None
             }

@@ -6,7 +6,7 @@ use compare::run::run;
 use compare::shrink::shortest;
 use compare::side::MODEL;
 use compare::statistics::Statistics;
-use compare::step::Step;
+use compare::step::{Call, Step};
 use compare::world::World;
 use model::fault::Fault;
 use model::Model;
@@ -33,10 +33,34 @@ fn a_fault_is_noticed_and_its_case_shrunk() {
     );
     assert!(!shrunk.difference.0.is_empty());
     let (place, difference) = pair
-        .first_difference(&World::new(), &shrunk.steps)
+        .first_difference(&World::new(), &shrunk.steps, shrunk.sound)
         .expect("the short list shows the difference too");
     assert_eq!(place + 1, shrunk.steps.len());
     assert_eq!(difference, shrunk.difference);
+}
+
+#[test]
+fn a_disk_that_is_no_longer_sound_is_noticed_and_its_case_shrunk() {
+    // Both sides make the same mistake, so nothing else differs.
+    let faulty = Model(Fault::DeleteKeepsFlag);
+    let mut pair = Pair::new(("one", &faulty), ("other", &faulty));
+    let Err(failure) = run(&mut pair, 1, 100_000, &mut Statistics::default()) else {
+        panic!("the disk stays sound")
+    };
+    let shrunk = shortest(&mut pair, 1, *failure);
+    assert_eq!(shrunk.difference.0, ["the disk is no longer sound"]);
+    assert!(shrunk.steps.len() <= 4, "{:?}", shrunk.steps);
+}
+
+#[test]
+fn a_difference_of_a_showing_is_an_offset_and_a_length() {
+    let faulty = Model(Fault::ShowWholeSector);
+    let mut pair = Pair::new(("model", MODEL), ("faulty model", &faulty));
+    let show = Call::Show { slot: 0, sector: 4 };
+    let difference = pair.step(&show.into(), false).unwrap_err();
+    let expected =
+        "answer: model yes, offset 384, length 0, faulty model yes, offset 384, length 125";
+    assert_eq!(difference.0, [expected]);
 }
 
 #[test]

@@ -18,6 +18,8 @@ use model::volume::fresh;
 
 const REPETITIONS: usize = 301;
 
+const USAGE: &str = "usage: bench [--scattered] [--repetitions N]";
+
 /// Commands, and the directions of an open.
 const OPEN: u8 = 3;
 const GET: u8 = 7;
@@ -279,18 +281,19 @@ struct Options {
     repetitions: usize,
 }
 
-fn options(words: impl Iterator<Item = String>) -> Option<Options> {
-    let mut words = words.peekable();
-    let scattered = words.next_if(|word| word == "--scattered").is_some();
-    let repetitions = match words.next() {
-        None => REPETITIONS,
-        Some(word) if word == "--repetitions" => words.next()?.parse().ok()?,
-        Some(_) => return None,
+fn options(mut words: impl Iterator<Item = String>) -> Option<Options> {
+    let mut options = Options {
+        scattered: false,
+        repetitions: REPETITIONS,
     };
-    (repetitions > 0 && words.next().is_none()).then_some(Options {
-        scattered,
-        repetitions,
-    })
+    while let Some(word) = words.next() {
+        match word.as_str() {
+            "--scattered" => options.scattered = true,
+            "--repetitions" => options.repetitions = words.next()?.parse().ok()?,
+            _ => return None,
+        }
+    }
+    (options.repetitions > 0).then_some(options)
 }
 
 /// The lines of the table.
@@ -312,8 +315,13 @@ fn lines(scattered: bool) -> Vec<Line> {
 }
 
 fn main() -> ExitCode {
-    let Some(options) = options(std::env::args().skip(1)) else {
-        eprintln!("usage: bench [--scattered] [--repetitions N]");
+    let words: Vec<String> = std::env::args().skip(1).collect();
+    if words.iter().any(|word| word == "--help") {
+        println!("{USAGE}");
+        return ExitCode::SUCCESS;
+    }
+    let Some(options) = options(words.into_iter()) else {
+        eprintln!("{USAGE}");
         return ExitCode::FAILURE;
     };
     println!("| Call | {LIBRARY_NAME}, ns | model, ns | ratio |");

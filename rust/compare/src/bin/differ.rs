@@ -8,9 +8,11 @@
 //! model; with `--faults`, with each fault of the model, which must be noticed. Without
 //! `--against` it is the library where that is linked, else the model. To ask for the library
 //! where it is not linked is an error, so that a test that names it cannot pass without it.
+//! A case that shows a difference is printed in lines that `desk shell` takes.
 //! The exit status is 0 where all is as it must be, else 1.
 
 use std::process::ExitCode;
+use std::str::FromStr;
 use std::time::Instant;
 
 use compare::pair::Pair;
@@ -18,6 +20,7 @@ use compare::run::{run, Failure};
 use compare::shrink::shortest;
 use compare::side::{Side, LIBRARY, LIBRARY_NAME, MODEL};
 use compare::statistics::Statistics;
+use compare::step::Step;
 use model::fault::FAULTS;
 use model::Model;
 
@@ -39,7 +42,8 @@ struct Options {
 }
 
 impl Options {
-    fn read(mut words: impl Iterator<Item = String>) -> Option<Options> {
+    /// Takes the words of the command line; what is wrong with them where they cannot be taken.
+    fn read(mut words: impl Iterator<Item = String>) -> Result<Options, String> {
         let against = (LIBRARY_NAME, LIBRARY);
         let mut options = Options {
             calls: CALLS,
@@ -50,44 +54,55 @@ impl Options {
         };
         while let Some(word) = words.next() {
             match word.as_str() {
-                "--calls" => options.calls = words.next()?.parse().ok()?,
-                "--seed" => options.seed = words.next()?.parse().ok()?,
+                "--calls" => options.calls = number(&word, words.next())?,
+                "--seed" => options.seed = number(&word, words.next())?,
                 "--long" => options.calls = LONG,
                 "--against" => {
-                    let name = words.next()?;
-                    options.against = side(&name)?;
+                    options.against = side(&words.next().ok_or("--against needs a side")?)?;
                 }
                 "--statistics" => options.statistics = true,
                 "--faults" => options.faults = true,
-                _ => return None,
+                _ => return Err(format!("no option {word}")),
             }
         }
-        Some(options)
+        Ok(options)
     }
 }
 
+/// The number behind an option.
+fn number<T: FromStr>(option: &str, word: Option<String>) -> Result<T, String> {
+    word.and_then(|word| word.parse().ok())
+        .ok_or_else(|| format!("{option} needs a number"))
+}
+
 /// The side of that name, and how reports call it.
-fn side(name: &str) -> Option<(&'static str, &'static dyn Side)> {
+fn side(name: &str) -> Result<(&'static str, &'static dyn Side), String> {
     match name {
-        "library" if cfg!(feature = "proved") => Some((LIBRARY_NAME, LIBRARY)),
-        "library" => {
-            eprintln!("the library is not linked: build with the feature proved");
-            None
-        }
-        "model" => Some(("model", MODEL)),
+        "library" if cfg!(feature = "proved") => Ok((LIBRARY_NAME, LIBRARY)),
+        "library" => Err("the library is not linked: build with the feature proved".into()),
+        "model" => Ok(("model", MODEL)),
         _ => {
             let (fault, _) = FAULTS
                 .iter()
-                .find(|(fault, _)| format!("{fault:?}") == name)?;
-            Some(("faulty model", Box::leak(Box::new(Model(*fault)))))
+                .find(|(fault, _)| format!("{fault:?}") == name)
+                .ok_or_else(|| format!("no side {name}: --faults lists the faults"))?;
+            Ok(("faulty model", Box::leak(Box::new(Model(*fault)))))
         }
     }
 }
 
 fn main() -> ExitCode {
-    let Some(options) = Options::read(std::env::args().skip(1)) else {
-        eprintln!("{USAGE}");
-        return ExitCode::FAILURE;
+    let words: Vec<String> = std::env::args().skip(1).collect();
+    if words.iter().any(|word| word == "--help") {
+        println!("{USAGE}");
+        return ExitCode::SUCCESS;
+    }
+    let options = match Options::read(words.into_iter()) {
+        Ok(options) => options,
+        Err(message) => {
+            eprintln!("differ: {message}\n{USAGE}");
+            return ExitCode::FAILURE;
+        }
     };
     let passed = if options.faults {
         notice_faults(&options)
@@ -130,7 +145,7 @@ fn report(pair: &mut Pair, seed: u64, failure: Failure) {
         "# a difference after {} calls; a short list of calls that shows it:",
         failure.calls
     );
-    println!("format");
+    println!("{}", Step::Fresh);
     let shrunk = shortest(pair, seed, failure);
     for step in &shrunk.steps {
         println!("{step}");
