@@ -1,16 +1,17 @@
 //! The commands that work on one image file.
 
 use crate::{
+    contents::read_file,
     directory,
     dump::dump,
-    failure::{numbered, About, Failure},
+    failure::{numbered_recovery, About, Failure},
     image_file::{self, ImageFile},
-    syntax,
+    syntax, whole_file,
 };
 use hilugsaban::{padded_name, Direction, Disk, Status, SECTOR_BYTES};
 use std::{
     ffi::{OsStr, OsString},
-    fs::{self, File},
+    fs::File,
     io::{self, Read, Write},
     path::Path,
 };
@@ -19,6 +20,9 @@ type Outcome = Result<(), Failure>;
 
 /// Where no channel is open, any serves.
 const CHANNEL: u8 = 0;
+
+/// Bytes of a file that has all 707 sectors.
+const LONGEST_FILE: u64 = 707 * 125;
 
 /// Reads an image to look at it.
 fn load(image: &OsStr) -> Result<Disk<Vec<u8>>, Failure> {
@@ -55,41 +59,20 @@ pub fn list(arguments: &[OsString], out: &mut dyn Write) -> Outcome {
 
 pub fn get(arguments: &[OsString], out: &mut dyn Write) -> Outcome {
     let name = name(&arguments[1])?;
-    let bytes = read_file(&mut load(&arguments[0])?, name)?;
+    let image = &arguments[0];
+    let bytes = read_file(&mut load(image)?, name)?;
     match arguments.get(2) {
         Some(file) if file == "-" => Ok(out.write_all(&bytes)?),
-        Some(file) => fs::write(file, bytes).about(file.display()),
+        Some(file) if whole_file::same(Path::new(image), Path::new(file)) => {
+            let file = file.display();
+            Err(Failure::new(format!("{file}: is the image itself")))
+        }
+        Some(file) => whole_file::write(Path::new(file), &bytes).about(file.display()),
         None => {
             let own_name = name.rsplit(':').next().unwrap_or(name);
-            File::create_new(own_name)
-                .and_then(|mut file| file.write_all(&bytes))
-                .about(own_name)
+            whole_file::create(Path::new(own_name), &bytes).about(own_name)
         }
     }
-}
-
-/// The bytes of a file on the disk.
-fn read_file(disk: &mut Disk<Vec<u8>>, name: &str) -> Result<Vec<u8>, Failure> {
-    let mut bytes = Vec::new();
-    let mut buffer = [0; 4096];
-    disk.open(CHANNEL, Direction::Read, name).about(name)?;
-    loop {
-        match disk.get(CHANNEL, &mut buffer) {
-            Ok(count) => bytes.extend(&buffer[..count]),
-            Err(end) if end.status == Status::EndOfFile => {
-                bytes.extend(&buffer[..end.count]);
-                break;
-            }
-            Err(damage) => {
-                return Err(damage.status).about(format!(
-                    "{name}: after {} bytes",
-                    bytes.len() + damage.count
-                ))
-            }
-        }
-    }
-    disk.close(CHANNEL).about(name)?;
-    Ok(bytes)
 }
 
 pub fn put(arguments: &[OsString], _: &mut dyn Write) -> Outcome {
@@ -103,9 +86,9 @@ pub fn put(arguments: &[OsString], _: &mut dyn Write) -> Outcome {
         .to_ascii_uppercase();
     let name = name(arguments.get(2).unwrap_or(&own_name))?;
     let bytes = if file == "-" {
-        read_input()
+        read_input(io::stdin().lock())
     } else {
-        fs::read(file)
+        File::open(file).and_then(read_input)
     }
     .about(file.display())?;
     edit(&arguments[0], |disk| {
@@ -115,9 +98,10 @@ pub fn put(arguments: &[OsString], _: &mut dyn Write) -> Outcome {
     })
 }
 
-fn read_input() -> io::Result<Vec<u8>> {
+/// Reads the bytes to put, but of an input that no disk can hold only the first byte too many, which the put refuses.
+fn read_input(input: impl Read) -> io::Result<Vec<u8>> {
     let mut bytes = Vec::new();
-    io::stdin().lock().read_to_end(&mut bytes)?;
+    input.take(LONGEST_FILE + 1).read_to_end(&mut bytes)?;
     Ok(bytes)
 }
 
@@ -157,12 +141,13 @@ pub fn rename(arguments: &[OsString], _: &mut dyn Write) -> Outcome {
 pub fn recover(arguments: &[OsString], out: &mut dyn Write) -> Outcome {
     let which = name(&arguments[1])?;
     let (slot, sectors) = edit(&arguments[0], |disk| {
-        let slot = if which.starts_with(|first: char| first.is_ascii_digit()) {
-            syntax::number(which).map_err(Failure::new)?
+        let slot = if which.starts_with(|first: char| first.is_ascii_digit() || first == '$') {
+            syntax::number(which)?
         } else {
             deleted_slot(disk, which)?
         };
-        Ok((slot, disk.recover(slot).about(format!("slot {slot}"))?))
+        let refused = |status| format!("slot {slot}: {}", numbered_recovery(status));
+        Ok((slot, disk.recover(slot).map_err(refused)?))
     })?;
     Ok(writeln!(
         out,
@@ -189,7 +174,7 @@ fn deleted_slot(disk: &mut Disk<Vec<u8>>, name: &str) -> Result<u8, Failure> {
         _ => {
             let each = tried.iter().map(|(slot, answer)| match answer {
                 Ok(_) => format!("slot {slot}: can be recovered"),
-                Err(status) => format!("slot {slot}: {}", numbered(*status)),
+                Err(status) => format!("slot {slot}: {}", numbered_recovery(*status)),
             });
             let each: Vec<String> = each.collect();
             Err(Failure::new(format!(
@@ -201,7 +186,7 @@ fn deleted_slot(disk: &mut Disk<Vec<u8>>, name: &str) -> Result<u8, Failure> {
 }
 
 pub fn sector(arguments: &[OsString], out: &mut dyn Write) -> Outcome {
-    let number: u16 = syntax::number(name(&arguments[1])?).map_err(Failure::new)?;
+    let number: u16 = syntax::number(name(&arguments[1])?)?;
     let mut bytes = [0; SECTOR_BYTES];
     load(&arguments[0])?
         .read_sector(number, &mut bytes)

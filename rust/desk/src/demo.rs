@@ -1,14 +1,12 @@
 //! A file deleted and recovered, told in some lines. Every answer shown is the library's.
 
 use crate::{
+    contents::read_file,
     directory,
     failure::{numbered, About, Failure},
 };
 use hilugsaban::{Direction, Disk, Status};
-use std::{
-    ffi::OsString,
-    io::{Read, Write},
-};
+use std::{ffi::OsString, io::Write};
 
 const CHANNEL: u8 = 0;
 
@@ -111,13 +109,7 @@ impl Demo<'_> {
     }
 
     fn read(&mut self, name: &str) -> Result<Vec<u8>, Failure> {
-        let mut bytes = Vec::new();
-        self.disk.open(CHANNEL, Direction::Read, name).about(name)?;
-        self.disk
-            .reader(CHANNEL)
-            .read_to_end(&mut bytes)
-            .about(name)?;
-        self.disk.close(CHANNEL).about(name)?;
+        let bytes = read_file(&mut self.disk, name)?;
         self.call(
             &format!("read {name}"),
             Status::Success,

@@ -1,6 +1,9 @@
 //! The directory of a disk, read through sector calls.
 
-use crate::failure::{numbered, About, Failure};
+use crate::{
+    contents::read_to_end,
+    failure::{numbered, numbered_recovery, About, Failure},
+};
 use hilugsaban::{Channel, Disk, Incomplete, Status, SECTOR_BYTES};
 use std::io::Write;
 
@@ -141,31 +144,18 @@ fn deleted(disk: &Disk<Vec<u8>>, slot: &Slot) -> (String, String) {
         Ok(bytes) => (bytes.to_string(), "deleted, can be recovered".into()),
         Err(status) => (
             "-".into(),
-            format!("deleted, cannot be recovered: {}", numbered(status)),
+            format!(
+                "deleted, cannot be recovered: {}",
+                numbered_recovery(status)
+            ),
         ),
     }
 }
 
-/// The bytes of the file in a slot, read to its end.
+/// The number of bytes of the file in a slot, read to its end.
 fn length(disk: &Disk<Vec<u8>>, slot: &Slot) -> Result<usize, Incomplete> {
-    let mut channel = Channel::reading(slot.number.into(), slot.sectors);
-    let mut buffer = [0; 4096];
-    let mut total = 0;
-    loop {
-        match disk.thin_get(&mut channel, &mut buffer) {
-            Ok(count) => total += count,
-            Err(Incomplete {
-                status: Status::EndOfFile,
-                count,
-            }) => return Ok(total + count),
-            Err(Incomplete { status, count }) => {
-                return Err(Incomplete {
-                    status,
-                    count: total + count,
-                })
-            }
-        }
-    }
+    let channel = Channel::reading(slot.number.into(), slot.sectors);
+    Ok(read_to_end(disk, channel)?.len())
 }
 
 /// Whether the library finds the volume table good: it looks at it before it looks for a name.

@@ -1,7 +1,10 @@
 //! Why a command failed, in one line.
 
 use hilugsaban::{Incomplete, Status};
-use std::{fmt::Display, io};
+use std::{
+    fmt::Display,
+    io::{self, Write},
+};
 
 /// A message for the person at the terminal.
 #[derive(Debug)]
@@ -12,10 +15,10 @@ impl Failure {
         Failure(message.into())
     }
 
-    /// Prints the message, if there is one.
+    /// Prints the message, if there is one. Where it cannot be printed, the exit status has to do.
     pub fn report(&self) {
         if !self.0.is_empty() {
-            eprintln!("desk: {self}");
+            let _ = writeln!(io::stderr(), "desk: {self}");
         }
     }
 }
@@ -23,6 +26,12 @@ impl Failure {
 impl Display for Failure {
     fn fmt(&self, f: &mut std::fmt::Formatter<'_>) -> std::fmt::Result {
         f.write_str(&self.0)
+    }
+}
+
+impl From<String> for Failure {
+    fn from(message: String) -> Failure {
+        Failure(message)
     }
 }
 
@@ -39,6 +48,15 @@ impl From<io::Error> for Failure {
 /// A status with its number, as every message shows it.
 pub fn numbered(status: Status) -> String {
     format!("{} {status}", status.number())
+}
+
+/// The answer of a recovery, as [`numbered`]. It is asked for a slot and not for a name, so two refusals mean something else.
+pub fn numbered_recovery(status: Status) -> String {
+    match status {
+        Status::NotFound => format!("{} no deleted file is in this slot", status.number()),
+        Status::BadName => format!("{} the name in this slot is not legal", status.number()),
+        _ => numbered(status),
+    }
 }
 
 /// Says what an error is about.

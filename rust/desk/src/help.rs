@@ -19,12 +19,15 @@ pub struct Command {
 }
 
 impl Command {
+    /// How the command is called.
+    pub fn usage(&self) -> String {
+        let usage = format!("usage: desk {} {}", self.name, self.arguments);
+        usage.trim_end().to_string()
+    }
+
     /// What `desk NAME --help` prints.
     pub fn help(&self) -> String {
-        format!(
-            "usage: desk {} {}\n\n{}.\n{}",
-            self.name, self.arguments, self.summary, self.details
-        )
+        format!("{}\n\n{}.\n{}", self.usage(), self.summary, self.details)
     }
 }
 
@@ -76,6 +79,7 @@ const COMMANDS: &[Command] = &[
         most: 3,
         summary: "Copy a file out of an image",
         details: "FILE is NAME in the current folder if none is given, and must not exist then; - is standard output.\n\
+                  A FILE that exists is replaced, but for the image itself.\n\
                   Nothing is written if the file cannot be read to its end.\n",
         run: commands::get,
     },

@@ -1,44 +1,62 @@
-//! Files that hold an image: read whole, and replaced whole.
+//! Files that hold an image.
 
-use crate::failure::{About, Failure};
+use crate::{
+    failure::{numbered, About, Failure},
+    whole_file,
+};
+use hilugsaban::{Status, IMAGE_BYTES};
 use std::{
     fs::{self, File, OpenOptions, TryLockError},
-    io::{self, Read, Write},
+    io::{self, Read},
+    ops::RangeInclusive,
     os::unix::fs::MetadataExt,
     path::{Path, PathBuf},
-    process,
 };
 
-/// The image in a file. Its length is not looked at: the library refuses a wrong one.
+/// The length of an image.
+const IMAGE: RangeInclusive<u64> = IMAGE_BYTES as u64..=IMAGE_BYTES as u64;
+
+/// The lengths of a file that the shell serves: there the library refuses a wrong one, call by call.
+const ANY: RangeInclusive<u64> = 0..=1 << 20;
+
+/// The image in a file, to look at it.
 pub fn read(path: &Path) -> Result<Vec<u8>, Failure> {
     let file = open_regular(path, OpenOptions::new().read(true));
-    file.and_then(|mut file| read_all(&mut file))
+    file.and_then(|mut file| read_all(&mut file, IMAGE))
         .about(path.display())
 }
 
 /// Writes a new image file, which must not exist yet.
 pub fn create(path: &Path, image: &[u8]) -> Result<(), Failure> {
-    if path.symlink_metadata().is_ok() {
-        return Err(Failure::new(format!("{}: already exists", path.display())));
-    }
-    replace(path, image, None).about(path.display())?;
-    Ok(())
+    whole_file::create(path, image).about(path.display())
 }
 
 /// An image file that is to be written back. No other desk can hold it at the same time.
 pub struct ImageFile {
     path: PathBuf,
-    /// Open, and locked, as long as the image is held.
-    file: File,
+    /// Open, and locked, as long as the image is held; none where the file may not be written.
+    file: Option<File>,
 }
 
 impl ImageFile {
     /// Opens and locks the file, and reads its image.
     pub fn open(path: &Path) -> Result<(ImageFile, Vec<u8>), Failure> {
-        ImageFile::open_locked(path).about(path.display())
+        ImageFile::open_locked(path, IMAGE).about(path.display())
     }
 
-    fn open_locked(path: &Path) -> io::Result<(ImageFile, Vec<u8>)> {
+    /// Opens a file for the shell: of another length too, and where it may not be written, for reading.
+    pub fn open_any(path: &Path) -> Result<(ImageFile, Vec<u8>), Failure> {
+        use io::ErrorKind::{PermissionDenied, ReadOnlyFilesystem};
+        match ImageFile::open_locked(path, ANY) {
+            Err(error) if [PermissionDenied, ReadOnlyFilesystem].contains(&error.kind()) => {
+                ImageFile::open_for_reading(path)
+            }
+            opened => opened,
+        }
+        .about(path.display())
+    }
+
+    fn open_locked(path: &Path, lengths: RangeInclusive<u64>) -> io::Result<(ImageFile, Vec<u8>)> {
         let path = fs::canonicalize(path)?;
         // For writing too, so that a file without that permission is refused here and not replaced later.
         let mut file = open_regular(&path, OpenOptions::new().read(true).write(true))?;
@@ -47,13 +65,26 @@ impl ImageFile {
         if fs::metadata(&path)?.ino() != file.metadata()?.ino() {
             return Err(in_use());
         }
-        let image = read_all(&mut file)?;
+        let image = read_all(&mut file, lengths)?;
+        let file = Some(file);
         Ok((ImageFile { path, file }, image))
+    }
+
+    /// What is never written back needs no lock.
+    fn open_for_reading(path: &Path) -> io::Result<(ImageFile, Vec<u8>)> {
+        let path = fs::canonicalize(path)?;
+        let mut file = open_regular(&path, OpenOptions::new().read(true))?;
+        let image = read_all(&mut file, ANY)?;
+        Ok((ImageFile { path, file: None }, image))
     }
 
     /// Replaces the image in the file.
     pub fn write_back(&mut self, image: &[u8]) -> Result<(), Failure> {
-        self.file = replace(&self.path, image, Some(&self.file)).about(self.path.display())?;
+        let path = self.path.display();
+        let Some(old) = &self.file else {
+            return Err(Failure::new(format!("{path}: may not be written")));
+        };
+        self.file = Some(whole_file::replace(&self.path, image, old).about(path)?);
         Ok(())
     }
 
@@ -70,7 +101,14 @@ fn open_regular(path: &Path, options: &OpenOptions) -> io::Result<File> {
     options.open(path)
 }
 
-fn read_all(file: &mut File) -> io::Result<Vec<u8>> {
+/// The bytes of a file, if it has one of these lengths. The length is looked at first, so that a file of any length can be
+/// named without harm.
+fn read_all(file: &mut File, lengths: RangeInclusive<u64>) -> io::Result<Vec<u8>> {
+    let length = file.metadata()?.len();
+    if !lengths.contains(&length) {
+        let refusal = numbered(Status::BadImage);
+        return Err(io::Error::other(format!("{refusal} ({length})")));
+    }
     let mut bytes = Vec::new();
     file.read_to_end(&mut bytes)?;
     Ok(bytes)
@@ -85,38 +123,4 @@ fn lock(file: &File) -> io::Result<()> {
 
 fn in_use() -> io::Error {
     io::Error::other("in use by another desk")
-}
-
-/// Puts a file with these bytes in the place of the old one, all at once: a temporary file in the same folder is written,
-/// brought to the disk and renamed, so that a crash leaves either the old file or the new one whole. Returns the new file,
-/// locked.
-fn replace(path: &Path, bytes: &[u8], old: Option<&File>) -> io::Result<File> {
-    let folder = match path.parent() {
-        Some(folder) if folder != Path::new("") => folder,
-        _ => Path::new("."),
-    };
-    let name = path
-        .file_name()
-        .ok_or_else(|| io::Error::other("not a file name"))?;
-    let mut temporary_name = name.to_os_string();
-    temporary_name.push(format!(".{}.tmp", process::id()));
-    let temporary = folder.join(temporary_name);
-    let file = File::create_new(&temporary)?;
-    let written = write_synced(&file, bytes, old).and_then(|()| fs::rename(&temporary, path));
-    if let Err(error) = written {
-        let _ = fs::remove_file(&temporary);
-        return Err(error);
-    }
-    File::open(folder)?.sync_all()?;
-    Ok(file)
-}
-
-/// Fills the temporary file, with the old one's permissions.
-fn write_synced(mut file: &File, bytes: &[u8], old: Option<&File>) -> io::Result<()> {
-    lock(file)?;
-    if let Some(old) = old {
-        file.set_permissions(old.metadata()?.permissions())?;
-    }
-    file.write_all(bytes)?;
-    file.sync_all()
 }

@@ -3,18 +3,21 @@
 #![forbid(unsafe_code)]
 
 mod commands;
+mod contents;
 mod demo;
 mod directory;
 mod dump;
+mod exact;
 mod failure;
 mod help;
 mod image_file;
 mod shell;
 mod syntax;
+mod whole_file;
 
 use std::{
     env,
-    ffi::OsString,
+    ffi::{OsStr, OsString},
     io::{self, Write},
     process::ExitCode,
 };
@@ -41,22 +44,22 @@ fn run(arguments: &[OsString], out: &mut dyn Write) -> Result<(), Failure> {
         return Err(Failure::new("no command given: see desk --help"));
     };
     if is_help(first) || first == "help" {
-        let help = rest
-            .first()
-            .and_then(|name| help::find(name))
-            .map(Command::help);
-        return Ok(write!(out, "{}", help.unwrap_or_else(help::overview))?);
+        let text = match rest.first() {
+            Some(name) if !is_help(name) => command_named(name)?.help(),
+            _ => help::overview(),
+        };
+        return Ok(write!(out, "{text}")?);
     }
-    let Some(command) = help::find(first) else {
-        return Err(Failure::new(format!(
-            "no command {}: see desk --help",
-            first.display()
-        )));
-    };
+    let command = command_named(first)?;
     match operands(command, rest)? {
         Some(operands) => (command.run)(&operands, out),
         None => Ok(write!(out, "{}", command.help())?),
     }
+}
+
+fn command_named(name: &OsStr) -> Result<&'static Command, Failure> {
+    let unknown = || format!("no command {}: see desk --help", name.display());
+    Ok(help::find(name).ok_or_else(unknown)?)
 }
 
 /// The arguments of a command as many as it takes, or none where help is asked for. Behind -- nothing is an option.
@@ -79,10 +82,7 @@ fn operands(command: &Command, words: &[OsString]) -> Result<Option<Vec<OsString
         }
     }
     if operands.len() < command.least || operands.len() > command.most {
-        return Err(Failure::new(format!(
-            "usage: desk {} {}",
-            command.name, command.arguments
-        )));
+        return Err(Failure::new(command.usage()));
     }
     Ok(Some(operands))
 }

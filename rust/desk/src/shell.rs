@@ -3,12 +3,14 @@
 use crate::{
     directory,
     dump::dump,
-    failure::{numbered, About, Failure},
+    exact::{print_answer, Exact, Lengths, Understood},
+    failure::{About, Failure},
     image_file::{self, ImageFile},
-    syntax::{self, Word},
+    syntax::{self, value, Word},
 };
 use hilugsaban::{
-    command, raw, Answer, Channel, Direction, Disk, Status, CLOSED, READING, SECTOR_BYTES, WRITING,
+    command, Answer, Channel, Direction, Disk, Status, CHANNELS, CLOSED, IMAGE_BYTES, READING,
+    SECTOR_BYTES, WRITING,
 };
 use std::{
     ffi::OsString,
@@ -20,7 +22,7 @@ pub const HELP: &str = "\
 One call a line, from the terminal or from standard input; lines that begin with # are passed over. Each
 call prints its status number, its message and its count; bytes that it handed out follow, indented.
 Without IMAGE a fresh disk in memory is used. Nothing is written to a file but by save. The exit status is
-1 where a line could not be understood; a refused call is no failure here.
+1 where a line could not be understood or carried out; a refused call is no failure here.
 
 Files
   open N read|write NAME       open a file on channel N, 0 to 7
@@ -29,34 +31,33 @@ Files
   close N
   status|delete|lock|unlock NAME
   rename OLD NEW
+  format                       remove all files; every channel must be closed
   list                         the directory
-  recover SLOT                 take the deleted file in a slot back
 
-Calls with every argument as it is
+Calls with every argument as it is; behind a get or a sector read follows the whole BUFFER
   cio CHANNEL COMMAND DIRECTION \"NAME\" BUFFER
                                NAME needs its device and ending byte: \"D:A\\x9B\"
   sector DEVICE UNIT COMMAND SECTOR BUFFER
+  recover SLOT                 take the deleted file in a slot back
   show SLOT SECTOR             where the data of a sector are, if SLOT could enter it
   thin-get KIND SLOT SECTOR OFFSET LEFT BUFFER
   thin-put KIND SLOT SECTOR OFFSET LEFT BUFFER
                                read or write by a channel record of its own
-  name \"NAME\" BUFFER          take a name apart; BUFFER has eleven bytes
+  name \"NAME\" BUFFER           take a name apart; BUFFER has eleven bytes
+  lent BYTES WORDS CALL        one of these calls, lent so many bytes of the image and words of the table
 
 The disk and its channels
   poke SECTOR BYTE VALUE       change one byte of a sector
   channel N KIND SLOT SECTOR OFFSET LEFT
                                change a channel; KIND is 0 closed, 1 reading, 2 writing
   table                        the eight channels
-  format                       a fresh disk with all channels closed
+  fresh                        another disk: fresh, with all channels closed
   save [FILE]                  write the image back, or to a new FILE
   help, quit
 
 A number is decimal, or hexadecimal behind $ or 0x. BUFFER is N*XX (N bytes of hexadecimal value XX),
 pairs of hexadecimal digits, - for none, or text in quotes. In quotes \\xNN is one byte.
 ";
-
-/// A line that could not be understood, and why.
-type Understood = Result<(), Failure>;
 
 struct Shell<'a> {
     disk: Disk<Vec<u8>>,
@@ -71,20 +72,20 @@ pub fn run(arguments: &[OsString], out: &mut dyn Write) -> Result<(), Failure> {
     let mut shell = Shell::new(arguments.first(), out)?;
     let mut input = io::stdin().lock();
     let terminal = input.is_terminal();
-    let mut misunderstood = 0;
+    let mut failed = 0;
     while let Some(line) = next_line(&mut input, terminal)? {
         match shell.line(&line) {
             Ok(true) => {}
             Ok(false) => break,
             Err(failure) => {
-                misunderstood += 1;
+                failed += 1;
                 writeln!(shell.out, "? {failure}")?;
             }
         }
         shell.out.flush()?;
     }
     shell.remind()?;
-    match misunderstood {
+    match failed {
         0 => Ok(()),
         lines => Err(Failure::new(format!(
             "lines that could not be carried out: {lines}"
@@ -95,7 +96,8 @@ pub fn run(arguments: &[OsString], out: &mut dyn Write) -> Result<(), Failure> {
 /// Reads a line, with a prompt before it where a person types.
 fn next_line(input: &mut dyn BufRead, terminal: bool) -> Result<Option<Vec<u8>>, Failure> {
     if terminal {
-        eprint!("desk> ");
+        // Where no prompt can be printed, the lines can still be read.
+        let _ = write!(io::stderr(), "desk> ");
     }
     let mut line = Vec::new();
     let length = input.read_until(b'\n', &mut line).about("standard input")?;
@@ -113,7 +115,7 @@ impl<'a> Shell<'a> {
                 out,
             });
         };
-        let (file, bytes) = ImageFile::open(Path::new(image))?;
+        let (file, bytes) = ImageFile::open_any(Path::new(image))?;
         Ok(Shell {
             disk: Disk::new(bytes.clone()),
             file: Some(file),
@@ -132,13 +134,13 @@ impl<'a> Shell<'a> {
         if line.trim_start().starts_with('#') {
             return Ok(true);
         }
-        let words = syntax::words(line).map_err(Failure::new)?;
+        let words = syntax::words(line)?;
         let Some((first, arguments)) = words.split_first() else {
             return Ok(true);
         };
-        match text(first)? {
-            "quit" => return Ok(false),
-            verb => self.carry_out(verb, arguments)?,
+        match (first.text()?, arguments) {
+            ("quit", []) => return Ok(false),
+            (verb, arguments) => self.carry_out(verb, arguments)?,
         }
         Ok(true)
     }
@@ -154,44 +156,56 @@ impl<'a> Shell<'a> {
             ("lock", [name]) => self.on_name(Disk::lock, name),
             ("unlock", [name]) => self.on_name(Disk::unlock, name),
             ("rename", [old, new]) => self.rename(old, new),
-            ("recover", [slot]) => self.recover(slot),
-            ("cio", [block @ .., name, buffer]) if block.len() == 3 => {
-                self.cio(block, name, buffer)
-            }
-            ("sector", [block @ .., buffer]) if block.len() == 4 => self.sector(block, buffer),
-            ("show", [slot, sector]) => self.show(value(slot)?, value(sector)?),
-            ("poke", [sector, byte, new]) => self.poke(value(sector)?, value(byte)?, value(new)?),
-            ("channel", [n, words @ ..]) if words.len() == 5 => self.channel(value(n)?, words),
-            ("thin-get", [words @ .., buffer]) if words.len() == 5 => self.thin_get(words, buffer),
-            ("thin-put", [words @ .., buffer]) if words.len() == 5 => self.thin_put(words, buffer),
-            ("name", [name, buffer]) => self.name(name, buffer),
-            ("table", []) => self.table(),
             ("format", []) => self.format(),
+            ("lent", [bytes, words, verb, arguments @ ..]) => {
+                let lengths = Lengths {
+                    image: syntax::length(bytes.text()?)?,
+                    table: syntax::length(words.text()?)?,
+                };
+                self.exact(verb.text()?, arguments, Some(lengths))
+            }
+            ("poke", [sector, byte, new]) => self.poke(value(sector)?, value(byte)?, value(new)?),
+            ("channel", [n, kind, slot, sector, offset, left]) => {
+                let channel = Channel {
+                    kind: value(kind)?,
+                    slot: value(slot)?,
+                    sector: value(sector)?,
+                    offset: value(offset)?,
+                    left: value(left)?,
+                };
+                self.channel(value(n)?, channel)
+            }
+            ("table", []) => self.table(),
+            ("fresh", []) => self.fresh(),
             ("list", []) => directory::list(&self.disk, self.out),
             ("save", []) => self.save(),
-            ("save", [file]) => self.save_new(Path::new(text(file)?)),
+            ("save", [file]) => self.save_new(Path::new(file.text()?)),
             ("help", []) => Ok(write!(self.out, "{HELP}")?),
-            _ => {
-                let count = arguments.len();
-                Err(Failure::new(format!(
-                    "no call {verb} with {count} arguments: see help"
-                )))
-            }
+            _ => self.exact(verb, arguments, None),
         }
     }
 
+    fn exact(&mut self, verb: &str, arguments: &[Word], lengths: Option<Lengths>) -> Understood {
+        Exact {
+            disk: &mut self.disk,
+            lengths,
+            out: self.out,
+        }
+        .carry_out(verb, arguments)
+    }
+
     fn open(&mut self, n: &Word, direction: &Word, name: &Word) -> Understood {
-        let direction = match text(direction)? {
+        let direction = match direction.text()? {
             "read" => Direction::Read,
             "write" => Direction::Write,
             other => return Err(Failure::new(format!("{other}: neither read nor write"))),
         };
-        let answer = self.disk.open(value(n)?, direction, text(name)?);
+        let answer = self.disk.open(value(n)?, direction, name.text()?);
         self.status(answer.map(|()| 0))
     }
 
     fn get(&mut self, n: &Word, count: &Word) -> Understood {
-        let mut buffer = vec![0; syntax::length(text(count)?).map_err(Failure::new)?];
+        let mut buffer = vec![0; syntax::length(count.text()?)?];
         let answer = self.disk.cio(value(n)?, command::GET, 0, &[], &mut buffer);
         self.answer(answer)?;
         Ok(dump(&buffer[..answer.count], self.out)?)
@@ -214,90 +228,18 @@ impl<'a> Shell<'a> {
         call: fn(&mut Disk<Vec<u8>>, &str) -> Result<(), Status>,
         name: &Word,
     ) -> Understood {
-        let answer = call(&mut self.disk, text(name)?);
+        let answer = call(&mut self.disk, name.text()?);
         self.status(answer.map(|()| 0))
     }
 
     fn rename(&mut self, old: &Word, new: &Word) -> Understood {
-        let answer = self.disk.rename(text(old)?, text(new)?);
+        let answer = self.disk.rename(old.text()?, new.text()?);
         self.status(answer.map(|()| 0))
     }
 
-    fn recover(&mut self, slot: &Word) -> Understood {
-        let answer = self.disk.recover(value(slot)?);
-        self.status(answer)
-    }
-
-    /// `block` is channel, command and direction.
-    fn cio(&mut self, block: &[Word], name: &Word, buffer: &Word) -> Understood {
-        let (channel, command, direction) =
-            (value(&block[0])?, value(&block[1])?, value(&block[2])?);
-        let mut buffer = syntax::buffer(buffer).map_err(Failure::new)?;
-        let answer = self
-            .disk
-            .cio(channel, command, direction, &name.bytes, &mut buffer);
-        self.answer(answer)?;
-        if command == command::GET {
-            dump(&buffer[..answer.count], self.out)?;
-        }
-        Ok(())
-    }
-
-    /// `block` is device, unit, command and sector.
-    fn sector(&mut self, block: &[Word], buffer: &Word) -> Understood {
-        let (device, unit, command) = (value(&block[0])?, value(&block[1])?, value(&block[2])?);
-        let mut buffer = syntax::buffer(buffer).map_err(Failure::new)?;
-        let answer = self
-            .disk
-            .sector(device, unit, command, value(&block[3])?, &mut buffer);
-        self.answer(answer)?;
-        if command == command::READ_SECTOR {
-            dump(&buffer[..answer.count], self.out)?;
-        }
-        Ok(())
-    }
-
-    fn show(&mut self, slot: u8, sector: u16) -> Understood {
-        let Some(bytes) = self.disk.show(slot, sector) else {
-            return Ok(writeln!(self.out, "no")?);
-        };
-        let offset = bytes.as_ptr().addr() - self.disk.image().as_ptr().addr();
-        writeln!(self.out, "yes; offset {offset}, length {}", bytes.len())?;
-        Ok(dump(bytes, self.out)?)
-    }
-
-    fn thin_get(&mut self, words: &[Word], buffer: &Word) -> Understood {
-        let mut record = record(words)?;
-        let mut buffer = syntax::buffer(buffer).map_err(Failure::new)?;
-        let word = raw::thin_get(self.disk.image(), &mut record, &mut buffer);
-        let answer = Answer::from_word(word);
-        self.thin_answer(answer, record)?;
-        Ok(dump(&buffer[..answer.count], self.out)?)
-    }
-
-    fn thin_put(&mut self, words: &[Word], buffer: &Word) -> Understood {
-        let mut record = record(words)?;
-        let buffer = syntax::buffer(buffer).map_err(Failure::new)?;
-        let word = raw::thin_put(self.disk.image_mut(), &mut record, &buffer);
-        let answer = Answer::from_word(word);
-        self.thin_answer(answer, record)
-    }
-
-    /// The answer of a thin call, and its record after it.
-    fn thin_answer(&mut self, answer: Answer, record: [u16; 5]) -> Understood {
-        self.answer(answer)?;
-        let [kind, slot, sector, offset, left] = record;
-        Ok(writeln!(
-            self.out,
-            "record {kind} {slot} {sector} {offset} {left}"
-        )?)
-    }
-
-    fn name(&mut self, name: &Word, buffer: &Word) -> Understood {
-        let mut eleven = syntax::buffer(buffer).map_err(Failure::new)?;
-        let answer = Answer::from_word(raw::name(&name.bytes, &mut eleven));
-        self.answer(answer)?;
-        Ok(dump(&eleven, self.out)?)
+    fn format(&mut self) -> Understood {
+        let answer = self.disk.format();
+        self.status(answer.map(|()| 0))
     }
 
     /// Changes a byte by reading its sector and writing it back.
@@ -316,42 +258,49 @@ impl<'a> Shell<'a> {
         self.status(answer)
     }
 
-    fn channel(&mut self, n: u8, words: &[Word]) -> Understood {
-        let values = record(words)?;
-        if n >= hilugsaban::CHANNELS {
+    fn channel(&mut self, n: u8, channel: Channel) -> Understood {
+        if n >= CHANNELS {
             return Err(Failure::new(format!("{n}: channels are 0 to 7")));
         }
-        self.disk.table_mut().set_channel(n, Channel::from(values));
-        self.status(Ok(0))
-    }
-
-    fn format(&mut self) -> Understood {
-        self.disk = Disk::fresh();
-        self.status(Ok(0))
+        self.disk.table_mut().set_channel(n, channel);
+        self.print_channel(n)
     }
 
     fn table(&mut self) -> Understood {
-        for (n, channel) in self.disk.table().channels().enumerate() {
-            let Channel {
-                kind,
-                slot,
-                sector,
-                offset,
-                left,
-            } = channel;
-            let line = match kind {
-                CLOSED => "closed".to_string(),
-                READING => {
-                    format!("reading  slot {slot}, sector {sector}, offset {offset}, left {left}")
-                }
-                WRITING => format!("writing  slot {slot}, last sector {sector}"),
-                _ => format!(
-                    "kind {kind}  slot {slot}, sector {sector}, offset {offset}, left {left}"
-                ),
-            };
-            writeln!(self.out, "{n}  {line}")?;
+        (0..CHANNELS).try_for_each(|n| self.print_channel(n))
+    }
+
+    fn print_channel(&mut self, n: u8) -> Understood {
+        let Channel {
+            kind,
+            slot,
+            sector,
+            offset,
+            left,
+        } = self.disk.table().channel(n);
+        let state = match kind {
+            CLOSED => "closed".to_string(),
+            READING => {
+                format!("reading  slot {slot}, sector {sector}, offset {offset}, left {left}")
+            }
+            WRITING => format!("writing  slot {slot}, last sector {sector}"),
+            _ => {
+                format!("kind {kind}  slot {slot}, sector {sector}, offset {offset}, left {left}")
+            }
+        };
+        Ok(writeln!(self.out, "{n}  {state}")?)
+    }
+
+    /// Begins again with another disk. It is no call, so no channel hinders it; a file of another length, which may be no
+    /// image at all, is not to be overwritten by the next save.
+    fn fresh(&mut self) -> Understood {
+        if self.disk.image().len() != IMAGE_BYTES {
+            return Err(Failure::new(format!(
+                "the file is not {IMAGE_BYTES} bytes long and stays as it is"
+            )));
         }
-        Ok(())
+        self.disk = Disk::fresh();
+        Ok(writeln!(self.out, "a fresh disk with all channels closed")?)
     }
 
     fn save(&mut self) -> Understood {
@@ -376,7 +325,7 @@ impl<'a> Shell<'a> {
             if channel.kind == WRITING {
                 writeln!(
                     self.out,
-                    "channel {n} is still writing: its file is saved as open for output"
+                    "channel {n} is still writing: its file is saved as open for output; close it and save again"
                 )?;
             }
         }
@@ -392,12 +341,7 @@ impl<'a> Shell<'a> {
     }
 
     fn answer(&mut self, answer: Answer) -> Understood {
-        Ok(writeln!(
-            self.out,
-            "{}; count {}",
-            numbered(answer.status),
-            answer.count
-        )?)
+        Ok(print_answer(answer, self.out)?)
     }
 
     fn status(&mut self, answer: Result<usize, Status>) -> Understood {
@@ -407,22 +351,4 @@ impl<'a> Shell<'a> {
         };
         self.answer(Answer { status, count })
     }
-}
-
-/// The five words of a channel record.
-fn record(words: &[Word]) -> Result<[u16; 5], Failure> {
-    let mut values = [0; 5];
-    for (place, word) in values.iter_mut().zip(words) {
-        *place = value(word)?;
-    }
-    Ok(values)
-}
-
-/// A number among the arguments.
-fn value<T: TryFrom<u32>>(word: &Word) -> Result<T, Failure> {
-    syntax::number(text(word)?).map_err(Failure::new)
-}
-
-fn text(word: &Word) -> Result<&str, Failure> {
-    word.text().map_err(Failure::new)
 }

@@ -1,5 +1,7 @@
 //! Words, numbers and buffers of the shell's lines.
 
+use std::num::IntErrorKind;
+
 /// The longest buffer that a line may ask for.
 const LONGEST: usize = 1 << 20;
 
@@ -94,8 +96,17 @@ pub fn number<T: TryFrom<u32>>(text: &str) -> Result<T, String> {
         _ if text.starts_with('+') => return Err(format!("{text}: not a number")),
         _ => text.parse(),
     };
-    let value = value.map_err(|_| format!("{text}: not a number"))?;
-    T::try_from(value).map_err(|_| format!("{text}: too large"))
+    let too_large = || format!("{text}: too large");
+    let value = value.map_err(|error| match error.kind() {
+        IntErrorKind::PosOverflow => too_large(),
+        _ => format!("{text}: not a number"),
+    })?;
+    T::try_from(value).map_err(|_| too_large())
+}
+
+/// A word that is a number.
+pub fn value<T: TryFrom<u32>>(word: &Word) -> Result<T, String> {
+    number(word.text()?)
 }
 
 /// A buffer: N*XX (N bytes of value XX), hexadecimal digits, - for none, or text in quotes.
@@ -181,9 +192,11 @@ mod tests {
         assert_eq!(number::<u16>("720"), Ok(720));
         assert_eq!(number::<u16>("$2D0"), Ok(720));
         assert_eq!(number::<u16>("0x2d0"), Ok(720));
-        assert_eq!(number::<u8>("256"), Err("256: too large".into()));
-        for wrong in ["", "-1", "+1", "$", "$+1", "0x", "1x", "4294967296"] {
-            assert!(number::<u32>(wrong).is_err(), "{wrong}");
+        for large in ["256", "65536", "4294967296", "$100000000"] {
+            assert_eq!(number::<u8>(large), Err(format!("{large}: too large")));
+        }
+        for wrong in ["", "-1", "+1", "$", "$+1", "0x", "1x"] {
+            assert_eq!(number::<u32>(wrong), Err(format!("{wrong}: not a number")));
         }
     }
 

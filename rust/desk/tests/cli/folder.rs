@@ -3,9 +3,13 @@
 use hilugsaban::{Direction, Disk};
 use std::{
     fs,
-    io::Write,
-    path::PathBuf,
-    process::{Command, Output, Stdio},
+    io::{self, Write},
+    os::unix::{
+        fs::{chown, MetadataExt, PermissionsExt},
+        process::CommandExt,
+    },
+    path::{Path, PathBuf},
+    process::{Child, Command, Output, Stdio},
     sync::atomic::{AtomicU32, Ordering},
 };
 
@@ -35,6 +39,11 @@ impl Folder {
         fs::write(self.0.join(name), bytes).unwrap();
     }
 
+    /// Sets the permissions of a file or folder.
+    pub fn permit(&self, name: &str, mode: u32) {
+        fs::set_permissions(self.0.join(name), PermissionsExt::from_mode(mode)).unwrap();
+    }
+
     pub fn read(&self, name: &str) -> Vec<u8> {
         fs::read(self.0.join(name)).unwrap()
     }
@@ -49,19 +58,40 @@ impl Folder {
         names
     }
 
-    /// Runs the program in the folder with this standard input.
-    pub fn run_with(&self, arguments: &[&str], input: &[u8]) -> Output {
-        let mut child = Command::new(env!("CARGO_BIN_EXE_desk"))
+    /// The program, to be run in the folder.
+    pub fn command(&self, arguments: &[&str]) -> Command {
+        let mut command = Command::new(env!("CARGO_BIN_EXE_desk"));
+        command
             .args(arguments)
             .current_dir(&self.0)
             .stdin(Stdio::piped())
             .stdout(Stdio::piped())
-            .stderr(Stdio::piped())
-            .spawn()
-            .unwrap();
-        // A program that refuses its arguments ends without reading.
-        let _ = child.stdin.take().unwrap().write_all(input);
-        child.wait_with_output().unwrap()
+            .stderr(Stdio::piped());
+        command
+    }
+
+    /// Runs the program in the folder with this standard input.
+    pub fn run_with(&self, arguments: &[&str], input: &[u8]) -> Output {
+        finish(self.command(arguments).spawn().unwrap(), input)
+    }
+
+    /// Runs the program as a user whom permissions bind: where root runs the tests, as another one, to whom the folder and
+    /// all in it are given. None, with a line that says so, where that cannot be done.
+    pub fn run_bound(&self, arguments: &[&str], input: &[u8]) -> Option<Output> {
+        let mut command = self.command(arguments);
+        let given = if is_root() {
+            command.uid(NOBODY).gid(NOBODY);
+            give(&self.0, NOBODY)
+        } else {
+            Ok(())
+        };
+        match given.and_then(|()| command.spawn()) {
+            Ok(child) => Some(finish(child, input)),
+            Err(error) => {
+                println!("skipped: the program cannot be run as user {NOBODY}: {error}");
+                None
+            }
+        }
     }
 
     /// What a command that succeeds prints.
@@ -106,6 +136,32 @@ impl Drop for Folder {
     fn drop(&mut self) {
         let _ = fs::remove_dir_all(&self.0);
     }
+}
+
+/// A user without privileges.
+pub const NOBODY: u32 = 65534;
+
+/// Whether the tests are run by root, whom no permission binds.
+fn is_root() -> bool {
+    fs::metadata("/proc/self").unwrap().uid() == 0
+}
+
+/// Gives a file, or a folder and all in it, to a user.
+pub fn give(path: &Path, user: u32) -> io::Result<()> {
+    chown(path, Some(user), Some(user))?;
+    if path.is_dir() {
+        for entry in fs::read_dir(path)? {
+            give(&entry?.path(), user)?;
+        }
+    }
+    Ok(())
+}
+
+/// Waits for a program that gets this standard input.
+fn finish(mut child: Child, input: &[u8]) -> Output {
+    // A program that refuses its arguments ends without reading.
+    let _ = child.stdin.take().unwrap().write_all(input);
+    child.wait_with_output().unwrap()
 }
 
 /// Makes a file of `length` bytes on a disk.

@@ -1,5 +1,7 @@
 //! The program on files of a temporary folder: every command, its refusals, and what stands in the files afterwards.
 
+mod files;
 mod folder;
 mod images;
+mod pasted;
 mod shell;

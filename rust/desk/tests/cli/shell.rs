@@ -1,6 +1,7 @@
 //! The shell, with its lines on standard input.
 
 use crate::folder::{two_files, Folder};
+use hilugsaban::Disk;
 
 #[test]
 fn shell_makes_calls_on_a_disk_in_memory() {
@@ -81,6 +82,9 @@ channel 3 2 300 4 0 0
 cio 3 11 0 "" 41
 recover 200
 format
+fresh
+format
+cio 0 7 0 "" -
 table
 "#;
     let folder = Folder::new();
@@ -94,8 +98,8 @@ table
         .map(|line| line.split(' ').next().unwrap())
         .collect();
     let expected = [
-        "1", "1", "1", "165", "1", "1", "134", "168", "1", "204", "138", "1", "no", "1", "255",
-        "1", "164", "170", "1", "0", "1", "2", "3", "4", "5", "6", "7",
+        "1", "1", "1", "165", "1", "1", "134", "168", "1", "204", "138", "1", "no", "3", "255",
+        "3", "164", "170", "200", "a", "1", "133", "0", "1", "2", "3", "4", "5", "6", "7",
     ];
     assert_eq!(numbers, expected, "{printed}");
     assert_eq!(lines[1], "1 success; count 126");
@@ -110,14 +114,14 @@ table
 #[test]
 fn shell_goes_on_behind_a_line_it_does_not_understand() {
     let folder = Folder::new();
-    let script = "open 0 append A\nfly\nget 0\ncio 0 7 0 \"\nchannel 8 0 0 0 0 0\npoke 1 128 0\nsave\nget 256 1\nstatus A\n";
+    let script = "open 0 append A\nfly\nget 0\ncio 0 7 0 \"\nchannel 8 0 0 0 0 0\npoke 1 128 0\nsave\nget 256 1\nquit now\nlent 1 1 status A\nlent 1\nstatus A\n";
     let (printed, status) = folder.shell(&[], script);
     assert_eq!(
         printed
             .lines()
             .filter(|line| line.starts_with("? "))
             .count(),
-        8,
+        11,
         "{printed}"
     );
     assert!(
@@ -146,7 +150,7 @@ fn shell_writes_a_file_only_by_save() {
         .contains("deleted, can be recovered"));
     let (printed, status) = folder.shell(&[], "open 2 write A\nsave copy\nsave new\n");
     assert!(
-        printed.contains("? copy: already exists\nsaved new\nchannel 2 is still writing"),
+        printed.contains("? copy: already exists\nsaved new\nchannel 2 is still writing: its file is saved as open for output; close it and save again\n"),
         "{printed}"
     );
     assert_eq!(status, Some(1));
@@ -157,12 +161,65 @@ fn shell_writes_a_file_only_by_save() {
 fn shell_serves_an_image_of_another_length_with_203() {
     let folder = Folder::new();
     folder.write("short", &[0; 10]);
-    let (printed, status) = folder.shell(&["short"], "status A\npoke 1 0 0\nshow 0 4\n");
+    let (printed, status) = folder.shell(&["short"], "status A\npoke 1 0 0\nshow 0 4\nformat\n");
     assert_eq!(
         printed.lines().map(|line| &line[..2]).collect::<Vec<_>>(),
-        ["20", "20", "no"]
+        ["20", "20", "no", "20"]
     );
     assert_eq!(status, Some(0));
+}
+
+#[test]
+fn shell_makes_no_disk_of_a_file_that_is_none() {
+    let folder = Folder::new();
+    folder.write("notes", b"notes\n");
+    let (printed, status) = folder.shell(&["notes"], "format\nfresh\nsave\n");
+    let lines: Vec<&str> = printed.lines().collect();
+    assert!(lines[0].starts_with("203 "), "{printed}");
+    assert_eq!(
+        lines[1],
+        "? the file is not 92160 bytes long and stays as it is"
+    );
+    assert_eq!(status, Some(1));
+    assert_eq!(folder.read("notes"), b"notes\n");
+}
+
+#[test]
+fn shell_formats_by_the_call_and_begins_again_by_fresh() {
+    let folder = Folder::with_disk(two_files);
+    let script = "open 0 read B\nformat\nclose 0\nformat\nlist\n";
+    let (printed, _) = folder.shell(&["disk"], script);
+    let expected = "\
+1 success; count 0
+200 the file is open, or for a format a channel; count 0
+1 success; count 0
+1 success; count 0
+slot  name          sectors   bytes
+707 free sectors
+changes not saved
+";
+    assert_eq!(printed, expected);
+    let (printed, _) = folder.shell(&["disk"], "open 0 read B\nfresh\ntable\nsave\n");
+    assert!(
+        printed.contains("a fresh disk with all channels closed\n0  closed\n"),
+        "{printed}"
+    );
+    assert_eq!(folder.read("disk"), Disk::fresh().image());
+}
+
+#[test]
+fn shell_shows_the_whole_buffer_of_an_exact_get() {
+    let script = r#"
+open 0 write A
+put 0 "abc"
+close 0
+open 0 read A
+cio 0 7 0 "" 5*AA
+thin-get 1 0 0 0 1 5*BB
+"#;
+    let (printed, _) = Folder::new().shell(&[], script);
+    assert!(printed.contains("  0000  61 62 63 AA AA "), "{printed}");
+    assert!(printed.contains("  0000  61 62 63 BB BB "), "{printed}");
 }
 
 #[test]
@@ -173,6 +230,8 @@ put 0 "abc"
 close 0
 thin-get 1 0 0 0 1 2*00
 thin-put 0 0 0 0 0 2*41
+thin-get 1 0 00
+recover 0
 name "D:A.TXT\x9B" 11*00
 name "D2:A\x9B" 11*00
 "#;
@@ -185,6 +244,10 @@ record 1 0 4 2 0
   0000  61 62                                            ab
 133 the channel is closed; count 0
 record 0 0 0 0 0
+255 a channel of no known kind, or a table, channel or name buffer of the wrong length; count 0
+record 1 0
+  0000  00                                               .
+170 no deleted file is in this slot; count 0
 1 success; count 0
   0000  41 20 20 20 20 20 20 20 54 58 54                 A       TXT
 160 no such drive: there is only drive 1; count 0
