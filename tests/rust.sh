@@ -1,11 +1,35 @@
 #!/usr/bin/env bash
-# The tests of the Rust side, over the proved archive in target/staticlib. Ends with 'N passed, M failed'.
+# The tests of the Rust side, over the proved archive in target/staticlib, and its layout and lints where the toolchain has
+# the tools for them. Ends with 'N passed, M failed'.
 set -uo pipefail
 cd "$(dirname "$0")/../rust"
+passed=0
+failed=0
 log=$(mktemp)
 trap 'rm -f "$log"' EXIT
-cargo test --offline --workspace --features compare/proved 2>&1 | tee "$log"
+
+# Runs a command of cargo as one test. The command may be missing; that is no failure.
+optional() {
+    if ! cargo "$1" --version >"$log" 2>&1; then
+        echo "skipped: there is no cargo $1"
+    elif cargo "$@"; then
+        passed=$((passed + 1))
+    else
+        failed=$((failed + 1))
+        echo "FAILED: cargo $*"
+    fi
+}
+
+cargo test --offline --workspace --no-fail-fast --features compare/proved 2>&1 | tee "$log"
 status=${PIPESTATUS[0]}
-sed -nE 's/^test result: .* ([0-9]+) passed; ([0-9]+) failed;.*/\1 \2/p' "$log" |
-    awk '{ passed += $1; failed += $2 } END { printf "%d passed, %d failed\n", passed, failed }'
-exit "$status"
+while read -r good bad; do
+    passed=$((passed + good))
+    failed=$((failed + bad))
+done < <(sed -nE 's/^test result: .* ([0-9]+) passed; ([0-9]+) failed;.*/\1 \2/p' "$log")
+# A build that fails runs no test.
+[ "$status" -eq 0 ] || [ "$failed" -gt 0 ] || failed=1
+optional fmt --check
+optional clippy --offline --workspace --all-targets --features compare/proved -- -D warnings
+
+echo "$passed passed, $failed failed"
+[ "$failed" -eq 0 ]

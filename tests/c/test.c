@@ -228,6 +228,23 @@ static void refusals(void)
     EXPECT(by_name(1, DOS_DELETE, 0, "D:A"), DOS_BAD_TABLE, 0);
 }
 
+/* A file whose link leads to a sector of another one: its bytes before that are read, and it is not deleted. */
+static void damage(void)
+{
+    uint8_t out[126];
+
+    fresh();
+    make("D:A", 126);
+    make("D:B", 1);
+    image[3 * DOS_SECTOR_BYTES + 126] = 6;
+    remember();
+    EXPECT(by_name(0, DOS_DELETE, 0, "D:A"), DOS_BAD_CHAIN, 0);
+    EXPECT(by_name(0, DOS_OPEN, DOS_WRITE, "D:A"), DOS_BAD_CHAIN, 0);
+    EXPECT(by_name(0, DOS_OPEN, DOS_READ, "D:A"), DOS_SUCCESS, 0);
+    EXPECT(by_buffer(0, DOS_GET, out, sizeof out), DOS_BAD_CHAIN, 125);
+    HOLDS(unchanged() && memcmp(out, buffer, 125) == 0);
+}
+
 /* Sector calls and showing. */
 static void sectors(void)
 {
@@ -329,6 +346,7 @@ int main(void)
     recovery();
     names();
     refusals();
+    damage();
     sectors();
     thin();
     nothing_lent();
