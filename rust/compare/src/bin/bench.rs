@@ -92,7 +92,7 @@ impl Desk {
 
     /// Two files that were written in turn, a sector at a time.
     fn with_two_files(mut self) -> Desk {
-        let (mut first, mut second) = (Desk::new().table, Desk::new().table);
+        let (mut first, mut second) = ([0; TABLE], [0; TABLE]);
         for _ in 0..SCATTERED {
             for (table, slot) in [(&mut first, 0), (&mut second, 1)] {
                 self.table = *table;
@@ -196,20 +196,6 @@ fn get_scattered() -> Line {
     }
 }
 
-/// Delete of a file in every other sector.
-fn delete_scattered() -> Line {
-    let run = |side: &dyn Side, desk: &mut Desk| {
-        let begun = Instant::now();
-        assert_eq!(desk.cio(side, DELETE, 0, &file_name(0), &mut []), 1);
-        begun.elapsed()
-    };
-    Line {
-        text: format!("delete of {SCATTERED} sectors, every other one"),
-        start: Desk::new().with_two_files(),
-        calls: Box::new(run),
-    }
-}
-
 /// Status of a name that none of 64 files has.
 fn status_of_none() -> Line {
     let run = |side: &dyn Side, desk: &mut Desk| {
@@ -228,19 +214,30 @@ fn status_of_none() -> Line {
     }
 }
 
-/// Delete of a file of all 707 sectors.
-fn delete_whole() -> Line {
+/// Delete of the file in slot 0.
+fn delete_first(text: String, start: Desk) -> Line {
     let run = |side: &dyn Side, desk: &mut Desk| {
         let begun = Instant::now();
-        assert_eq!(desk.cio(side, DELETE, 0, b"D:A\x9b", &mut []), 1);
+        assert_eq!(desk.cio(side, DELETE, 0, &file_name(0), &mut []), 1);
         begun.elapsed()
     };
-    let start = Desk::new().with_file(b"D:A\x9b", WHOLE_DISK);
     Line {
-        text: "delete of 707 sectors".into(),
+        text,
         start,
         calls: Box::new(run),
     }
+}
+
+/// Delete of a file of all 707 sectors.
+fn delete_whole() -> Line {
+    let start = Desk::new().with_file(&file_name(0), WHOLE_DISK);
+    delete_first("delete of 707 sectors".into(), start)
+}
+
+/// Delete of a file in every other sector.
+fn delete_scattered() -> Line {
+    let text = format!("delete of {SCATTERED} sectors, every other one");
+    delete_first(text, Desk::new().with_two_files())
 }
 
 /// Recovery of a file of all 707 sectors.
