@@ -6,14 +6,14 @@ use mathlib.Core.Path.{_≡_, refl, sym, ap, _∙_, fun-ext}
 use Prim.Native.Nat.{ℕ, _+_, _≤_, _<_}
 use native.Mathlib.Decide.{ℕ-discrete, decLt}
 use native.Mathlib.Omega.{arith}
-use lib.Dec.{leb, eqb}
+use lib.Dec.{eqb}
 use lib.ListN.{length, getD, set, List·getD-eq-default}
 use lib.Seq.{getD-set-same, getD-set-other}
-use borrow.Author.Tests.{eqb-true, ne-eqb, le-ltb}
+use borrow.Author.Tests.{eqb-true, ne-eqb}
 use Rattle.layout.specs.Basics.{if, update, allBelow}
 use Rattle.layout.specs.Image.{Disk, single, inside, view, put}
 use Rattle.layout.specs.Volume.{dataSector, freshBit, freshMap, freshVolume, fresh}
-use Rattle.layout.proofs.Logic.{and-no}
+use Rattle.layout.proofs.Fresh.{volume-end}
 use Rattle.layout.proofs.Search.{all-at}
 use Rattle.layout.proofs.Update.{update-same, update-other, put-same, put-other}
 use Rattle.formats.specs.Zeros.{zeros}
@@ -46,11 +46,6 @@ zeros-next l i h f m k = go (ℕ-discrete m i)
 pub map-bytes : (i : ℕ) → i < 90 → freshMap i ≡ if (eqb i 0) 15 (if (eqb i 45) 0 (if (eqb i 46) 127 255))
 unfolding allBelow dataSector freshBit freshMap
 map-bytes i h = eqb-true _ _ (all-at (λ i. eqb (freshMap i) (if (eqb i 0) 15 (if (eqb i 45) 0 (if (eqb i 46) 127 255)))) 90 refl i h)
-
--- behind its last byte the table is zero
-volume-end : (j : ℕ) → 128 ≤ j → freshVolume j ≡ 0
-unfolding freshVolume
-volume-end j h = rw (ne-eqb j 0 (λ e. omega arith), ne-eqb j 1 (λ e. omega arith), ne-eqb j 3 (λ e. omega arith), ne-eqb j 2 (λ e. omega arith), ne-eqb j 4 (λ e. omega arith), le-ltb j 100 (omega arith), and-no (leb 10 j))
 
 -- the table written up to byte j
 pub record Written (d : Disk) (j : ℕ) : Type 0 where

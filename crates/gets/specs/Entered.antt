@@ -4,12 +4,13 @@ use mathlib.Core.List.{List}
 use mathlib.Core.Path.{_≡_}
 use Prim.Native.Nat.{ℕ, _-_, _≤_, _<_}
 use lib.Dec.{eqb}
+use lib.ListN.{length}
 use Rattle.layout.specs.Image.{Disk, Geometry}
 use Rattle.layout.specs.File.{used, fits}
 use Rattle.rules.specs.declared.Place.{Place}
 use Rattle.rules.specs.declared.Seek.{Seek}
 use Rattle.rules.specs.declared.Seek.the-variants.{Ready, Ended, Broken}
-use Rattle.rules.specs.Get.{getFrom}
+use Rattle.rules.specs.Get.{place, getFrom}
 
 module _ (g : Geometry) where
   -- an entered sector is on the disk and holds at most 125 bytes; 0 before any
@@ -40,3 +41,7 @@ module _ (g : Geometry) where
     pub most : i ≤ n
     pub entered : Entered d (p .sector)
     pub same : getFrom g d s (n - i₀) i₀ p₀ b₀ ≡ getFrom g d s (n - i) i p b
+
+  -- behind the end of sector k, with l yet to enter and i bytes filled of buffer b, full sectors are entered up to the end of k′, with l′ and i′ and buffer b′
+  abbrev pub Fills : Disk → ℕ → ℕ → ℕ → ℕ → List ℕ → ℕ → ℕ → ℕ → List ℕ → Type 0
+  Fills d s k l i b k′ l′ i′ b′ = (1 ≤ k′) × Gets d s (length b) i (place k (g .room) l) b i′ (place k′ (g .room) l′) b′

@@ -7,8 +7,7 @@ ghost use mathlib.Core.Path.{_≡_};
 ghost use Prim.Native.Nat.{_≤_};
 ghost use lib.ListN.{length};
 ghost use Rattle.layout.specs.Image.{single, view};
-ghost use Rattle.rules.specs.Get.{place};
-ghost use Rattle.gets.specs.Entered.{full, Entered, Gets};
+ghost use Rattle.gets.specs.Entered.{full, Entered, Fills};
 
 // The end of a full sector, the sectors yet to enter from there, and the bytes of the buffer that are filled.
 pub struct Filled {
@@ -49,8 +48,7 @@ fn get_consecutive(
     from: usize,
 ) -> Filled
     requires { ⌜ (length (now image) ≡ 92160) × (1 ≤ sector) × (from ≤ length (now buffer)) × Entered single (view single (now image)) sector ⌝ }
-    ensures { λ r. ⌜ (1 ≤ r .sector)
-        × Gets single (view single (now (image .entry))) slot (length (now (buffer .entry))) from (place sector 125 left) (now (buffer .entry)) (r .count) (place (r .sector) 125 (r .left)) (now (buffer .exit)) ⌝ }
+    ensures { λ r. ⌜ Fills single (view single (now (image .entry))) slot sector left from (now (buffer .entry)) (r .sector) (r .left) (r .count) (now (buffer .exit)) ⌝ }
 {
     let mut k = sector;
     let mut l = left;
@@ -81,8 +79,7 @@ pub fn get_whole(
     from: usize,
 ) -> Filled
     requires { ⌜ (length (now image) ≡ 92160) × (1 ≤ sector) × (from ≤ length (now buffer)) × Entered single (view single (now image)) sector ⌝ }
-    ensures { λ r. ⌜ (1 ≤ r .sector)
-        × Gets single (view single (now (image .entry))) slot (length (now (buffer .entry))) from (place sector 125 left) (now (buffer .entry)) (r .count) (place (r .sector) 125 (r .left)) (now (buffer .exit)) ⌝ }
+    ensures { λ r. ⌜ Fills single (view single (now (image .entry))) slot sector left from (now (buffer .entry)) (r .sector) (r .left) (r .count) (now (buffer .exit)) ⌝ }
 {
     let mut k = sector;
     let mut l = left;

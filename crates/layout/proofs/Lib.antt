@@ -9,6 +9,7 @@ pub mod Channels
 pub mod Bits
 pub mod Map
 pub mod Good
+pub mod Fresh
 pub mod Members
 pub mod MapAll
 pub mod Count

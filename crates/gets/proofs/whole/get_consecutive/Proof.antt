@@ -1,10 +1,9 @@
 use Rattle.gets.proofs.Getting.{gets-start, gets-full, room-left}
 use Rattle.gets.proofs.Seeking.{full-fits}
-use Rattle.gets.specs.Entered.{Gets}
+use Rattle.gets.specs.Entered.{Fills}
 use Rattle.layout.proofs.Chain.{fits-data}
 use Rattle.layout.proofs.Data.{data-facts}
 use Rattle.layout.specs.Image.{single, view}
-use Rattle.rules.specs.Get.{place}
 use borrow.Author.Tests.{not-false}
 use lib.ListN.{length}
 use native.Mathlib.Omega.{arith}
@@ -15,8 +14,7 @@ use Rattle.gets.proofs.whole.get_consecutive.Statement.{statement}
 use Rattle.gets.proofs.whole.get_consecutive.Tie as tie
 
 abbrev Inv-loop : tie.InvT-loop
-Inv-loop image slot sector left buffer₀ from k₀ l₀ i₀ buffer k l i = (length buffer ≡ length buffer₀) × (1 ≤ k)
-    × Gets single (view single image) slot (length buffer₀) from (place sector 125 left) buffer₀ i (place k 125 l) buffer
+Inv-loop image slot sector left buffer₀ from k₀ l₀ i₀ buffer k l i = (length buffer ≡ length buffer₀) × Fills single (view single image) slot sector left from buffer₀ k l i buffer
 
 abbrev μ-loop : tie.MeasureT-loop
 μ-loop image slot sector left buffer₀ from k₀ l₀ i₀ buffer k l i = length buffer₀ - i
@@ -26,7 +24,7 @@ tested : (c : tie.In-loop Inv-loop μ-loop) → (0 < c .before .loop .l) × (125
 tested c = let loop = c .before .loop in room-left (loop .l) (length (loop .buffer) - loop .i) (c .loop-test .taken)
 
 loop-holds : tie.Need-loop-holds Inv-loop μ-loop
-loop-holds c = (refl, omega arith, gets-start _ _ _ (omega arith) (c .before .before .pre .3))
+loop-holds c = (refl, (omega arith, gets-start _ _ _ (omega arith) (c .before .before .pre .3)))
 
 sub-loop : tie.Need-sub-loop Inv-loop μ-loop
 sub-loop c = search needs
@@ -44,7 +42,7 @@ same-length : tie.Need-same-length Inv-loop μ-loop
 same-length c = search needs
 
 returns : tie.Need-returns Inv-loop μ-loop
-returns c = let inv = c .before .before .before .before .loop .inv in rw (c .end-of .ensures) (inv .1, inv .2)
+returns c = let inv = c .before .before .before .before .loop .inv in rw (c .end-of .ensures) (inv .1)
 
 is-full-requires : tie.Need-is-full-requires Inv-loop μ-loop
 is-full-requires c κs = search needs
@@ -56,7 +54,7 @@ same-length-2 : tie.Need-same-length-2 Inv-loop μ-loop
 same-length-2 c = search needs
 
 returns-2 : tie.Need-returns-2 Inv-loop μ-loop
-returns-2 c = let inv = c .before .before .before .before .before .before .loop .inv in rw (c .end-of2 .ensures) (inv .1, inv .2)
+returns-2 c = let inv = c .before .before .before .before .before .before .loop .inv in rw (c .end-of2 .ensures) (inv .1)
 
 get-run-requires : tie.Need-get-run-requires Inv-loop μ-loop
 get-run-requires c κs =
@@ -80,8 +78,7 @@ loop-again c =
     let room = tested within in
     let inv = within .before .loop .inv in (
       omega arith,
-      omega arith,
-      gets-full (omega arith) (inv .2) (inv .1) (room .0) (omega arith) _ (sym (at .before .before .if1 .left) ∙ at .before .before .before .next .ensures) (sym (at .before .is-full .ensures) ∙ not-false _ (at .if2 .left)) _ (c .before .before .get-run .ensures),
+      (omega arith, gets-full (omega arith) (inv .1 .1) (inv .1 .0) (room .0) (omega arith) _ (sym (at .before .before .if1 .left) ∙ at .before .before .before .next .ensures) (sym (at .before .is-full .ensures) ∙ not-false _ (at .if2 .left)) _ (c .before .before .get-run .ensures)),
     )
 
 end-of-requires-3 : tie.Need-end-of-requires-3 Inv-loop μ-loop
@@ -91,7 +88,7 @@ same-length-3 : tie.Need-same-length-3 Inv-loop μ-loop
 same-length-3 c = search needs
 
 returns-3 : tie.Need-returns-3 Inv-loop μ-loop
-returns-3 c = let inv = c .before .before .loop .inv in rw (c .end-of3 .ensures) (inv .1, inv .2)
+returns-3 c = let inv = c .before .before .loop .inv in rw (c .end-of3 .ensures) (inv .1)
 
 pub get-consecutive-spec : {M : Type 1} → statement M
 get-consecutive-spec =
