@@ -5,7 +5,8 @@
 # The crates are copied aside, the change is made in the copy, and every crate up to the refused one is proved. Where an
 # example has to refuse it, `at: specs/..`, the laws in proofs/ are left out, since they may refuse it before the example does.
 # The refusal has to be at a fact: a missing name or a definition that is no longer well formed does not count.
-# Ends with 'N passed, M failed', an edit refused being one passed, and exits non-zero where one was not refused.
+# First the same copies are proved unedited: where they fail by themselves, that an edit is refused means nothing.
+# Ends with 'N passed, M failed', a copy proved unedited or an edit refused being one passed; exits non-zero where one failed.
 set -uo pipefail
 cd "$(dirname "$0")/.."
 root=$PWD
@@ -49,6 +50,36 @@ copy_crates() {
     done
 }
 
+# Copies the crates up to the refused one $2 into folder $1, as a refusal at $3 needs them.
+copy_for() {
+    case $3 in
+    specs/*) copy_crates "$1" "$2" src specs ;;
+    *) copy_crates "$1" "$2" src specs proofs ;;
+    esac
+}
+
+# What an edit asks to be refused, and whether with or without the laws: the copies that are proved unedited.
+copies() {
+    local edit
+    for edit in tests/spoiled/*.edit; do
+        sed -nE 's/^refused: //p' "$edit" | tr '\n' ' '
+        sed -nE 's/^at: ([a-z]+)\/.*/\1/p' "$edit"
+    done | sort -u
+}
+
+# Proves one copy unedited; writes its verdict to $work/unedited.CRATE.PART.res.
+unedited() {
+    local top=$1 part=$2 place=$work/unedited.$1.$2
+    copy_for "$place" "$top" "$part/"
+    if (cd "$place" && RT_JOBS=1 rt check "$top") >"$place.log" 2>&1; then
+        echo "proved: $top unedited, for refusals in $part/" >"$place.res"
+    else
+        tail -n 20 "$place.log" | cut -c1-1000
+        echo "unedited $top NOT PROVED, for refusals in $part/: $(tail -n 1 "$place.log")" >"$place.res"
+    fi
+    rm -rf "$place"
+}
+
 # Tries one edit; writes its verdict to $work/LABEL.res.
 try() {
     local edit=$1 label place line crate='' file='' old='' refused at found log
@@ -56,10 +87,7 @@ try() {
     place=$work/$label
     refused=$(sed -n 's/^refused: //p' "$edit")
     at=$(sed -n 's/^at: //p' "$edit")
-    case $at in
-    specs/*) copy_crates "$place" "$refused" src specs ;;
-    *) copy_crates "$place" "$refused" src specs proofs ;;
-    esac
+    copy_for "$place" "$refused" "$at"
     while IFS= read -r line; do
         case $line in
         'crate: '*) crate=${line#crate: } ;;
@@ -88,13 +116,24 @@ try() {
     rm -rf "$place"
 }
 
-for edit in tests/spoiled/*.edit; do
+# Runs a command beside at most one other.
+beside() {
     while [ "$(jobs -rp | wc -l)" -ge 2 ]; do wait -n; done
-    try "$edit" &
-done
+    "$@" &
+}
+
+while read -r top part; do
+    beside unedited "$top" "$part"
+done < <(copies)
 wait
+if ! grep -q NOT "$work"/*.res; then
+    for edit in tests/spoiled/*.edit; do
+        beside try "$edit"
+    done
+    wait
+fi
 cat "$work"/*.res
-good=$(cat "$work"/*.res | grep -c '^refused: ')
-all=$(ls tests/spoiled/*.edit | wc -l)
+good=$(cat "$work"/*.res | grep -cE '^(refused|proved): ')
+all=$(($(copies | wc -l) + $(ls tests/spoiled/*.edit | wc -l)))
 echo "$good passed, $((all - good)) failed"
 [ "$good" -eq "$all" ]

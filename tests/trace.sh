@@ -1,7 +1,9 @@
 #!/usr/bin/env bash
-# docs/TRACE.md names every definition of the two crates of rules, and no other.
+# docs/TRACE.md names every definition and every field of the two crates of rules, and nothing that is not there; and what it
+# quotes stands in document 01, which is compared where the paper lies beside the repository.
 set -uo pipefail
 cd "$(dirname "$0")/.."
+paper=../shared/papers/01-scope.md
 defined=$(mktemp)
 named=$(mktemp)
 trap 'rm -f "$defined" "$named"' EXIT
@@ -12,11 +14,71 @@ for file in crates/layout/specs/*.antt crates/rules/specs/*.antt; do
         sed -nE 's/^ *(unfoldable |abbrev )?pub (record |data )?([A-Za-z0-9·-]+) .*/\3/p' |
         sed "s/^/$(basename "$file" .antt)./"
 done | sort -u >"$defined"
-grep -oE '`[A-Z][A-Za-z]+\.[A-Za-z0-9]+`' docs/TRACE.md | tr -d '`' | grep -v '\.antt$' | sort -u >"$named"
+grep -oE '`[A-Z][A-Za-z0-9]+\.[A-Za-z0-9·-]+`' docs/TRACE.md | tr -d '`' | grep -v '\.antt$' | sort -u >"$named"
 
-# The fields of a record may be named by its definition's line alone where they are common words.
-missing=$(comm -23 "$defined" "$named" | grep -vE '\.(answer|buffer|disk|reply|given|answers|bytes|start|calls|expected|table)$')
+missing=$(comm -23 "$defined" "$named")
 unknown=$(comm -13 "$defined" "$named")
 [ -z "$missing" ] || printf 'not in docs/TRACE.md: %s\n' $missing
 [ -z "$unknown" ] || printf 'in docs/TRACE.md, not defined: %s\n' $unknown
-[ -z "$missing$unknown" ] && echo "docs/TRACE.md names all $(wc -l <"$defined") definitions"
+status=0
+if [ -z "$missing$unknown" ]; then
+    echo "docs/TRACE.md names all $(wc -l <"$defined") definitions"
+else
+    status=1
+fi
+
+if [ ! -f "$paper" ]; then
+    echo "document 01 is not at hand ($paper): what docs/TRACE.md quotes was NOT compared with it"
+    exit "$status"
+fi
+# The rule of docs/TRACE.md's head: what stands between two `..` of a first column has to stand in the paper, word for word, and
+# in the order of the row. Marks and the bars of tables are left out on both sides.
+awk '
+    function plain(t) {
+        gsub(/\\?\|/, " ", t)
+        gsub(/[*`]/, "", t)
+        gsub(/[ \t]+/, " ", t)
+        sub(/^ /, "", t)
+        sub(/ $/, "", t)
+        return t
+    }
+    function within_word(at) { return substr(paper, at - 1, 2) ~ /^[A-Za-z0-9][A-Za-z0-9]$/ }
+    # the place in the paper behind words t, which begin at place `from` or later and cut no word; 0 where they do not stand there
+    function behind(t, from,    at) {
+        while (at = index(substr(paper, from), t)) {
+            at += from - 1
+            if (!within_word(at) && !within_word(at + length(t))) return at + length(t)
+            from = at + 1
+        }
+        return 0
+    }
+    NR == FNR {
+        if ($0 !~ /^\|[-|]+$/) paper = paper " " plain($0)
+        next
+    }
+    /^\| Document 01 \|/ { quotes = 1; next }
+    !/^\|/ { quotes = 0 }
+    !quotes || /^\|[-|]+$/ || /^\| \(/ { next }
+    {
+        row = $0
+        gsub(/\\\|/, " ", row)
+        split(row, cells, "|")
+        n = split(" " cells[2] " ", pieces, / \.\. /)
+        at = 1
+        for (i = 1; i <= n; i++) {
+            words = plain(pieces[i])
+            if (words == "") continue
+            compared++
+            at = behind(words, at)
+            if (at) continue
+            print "docs/TRACE.md:" FNR ": not in document 01: " words
+            bad = 1
+            break
+        }
+    }
+    END {
+        if (!compared) print "docs/TRACE.md quotes nothing of document 01"
+        else if (!bad) print compared " quotations compared with document 01"
+        exit bad || !compared
+    }' "$paper" docs/TRACE.md || status=1
+exit "$status"

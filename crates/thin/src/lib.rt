@@ -19,11 +19,11 @@ pub fn thin_get(image: &[u8], channel: &mut Channel, buffer: &mut [u8]) -> Reply
         × (now (buffer .exit) ≡ thinGet single (now (image .entry)) (now (channel .entry)) (now (buffer .entry)) .buffer) ⌝ }
 {
     let before = *channel;
-    let after = read_on(image, before, buffer);
-    *channel = after.channel;
+    let read = read_on(image, before, buffer);
+    *channel = read.channel;
     Reply {
-        status: after.status,
-        count: after.count,
+        status: read.status,
+        count: read.count,
     }
 }
 
@@ -34,10 +34,10 @@ pub fn thin_put(image: &mut [u8], channel: &mut Channel, buffer: &[u8]) -> Reply
         × (now (image .exit) ≡ imageOf single (length (now (image .entry))) (thinPut single (now (image .entry)) (now (channel .entry)) (now (buffer .entry)) .disk)) ⌝ }
 {
     let before = *channel;
-    let after = write_on(image, before, buffer);
-    *channel = after.channel;
+    let written = write_on(image, before, buffer);
+    *channel = written.channel;
     Reply {
-        status: after.status,
-        count: after.count,
+        status: written.status,
+        count: written.count,
     }
 }
