@@ -2,6 +2,7 @@
 use files::chain::fits;
 use image::link::used;
 ghost use mathlib.Core.Path.{_≡_};
+ghost use Prim.Native.Nat.{_+_};
 ghost use Rattle.layout.specs.Image.{single};
 ghost use Rattle.rules.specs.Showing.{shows, shownStart, shownLength, shownPart};
 
@@ -38,10 +39,14 @@ pub fn shown_length(image: &[u8], slot: u16, sector: u16) -> usize
     used(image, sector) as usize
 }
 
-// The part itself.
+// The part itself, an empty one at the image's start where the answer is no. No copy: it lies in the same memory as the image (`ptr .0`), `shownStart` bytes behind the image's own place there (`ptr .1`).
 pub fn shown(image: &[u8], slot: u16, sector: u16) -> &[u8]
-    ensures { λ r. ⌜ now r ≡ shownPart single (now (image .entry)) slot sector ⌝ }
+    ensures { λ r. ⌜ (let l = now (image .entry) in
+        (now r ≡ shownPart single l slot sector) × (r .ptr .0 ≡ image .entry .ptr .0) × (r .ptr .1 ≡ image .entry .ptr .1 + shownStart single l slot sector)) ⌝ }
 {
+    if !shows(image, slot, sector) {
+        return &image[0..0];
+    }
     let start = shown_start(image, slot, sector);
     let end = start + shown_length(image, slot, sector);
     &image[start..end]
