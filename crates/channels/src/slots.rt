@@ -7,8 +7,9 @@ ghost use mathlib.Core.Path.{_≡_};
 ghost use Prim.Native.Nat.{_<_};
 ghost use lib.ListN.{length};
 ghost use Rattle.layout.specs.Image.{single, view};
-ghost use Rattle.layout.specs.Directory.{deleted, output};
+ghost use Rattle.layout.specs.Directory.{TellsFound, deleted, output};
 ghost use Rattle.layout.specs.Channels.{held, vacant, newSlot};
+ghost use Rattle.layout.specs.Status.{success, noSlot};
 ghost use Rattle.channels.specs.Below.{Below};
 
 // $80 deleted.
@@ -50,7 +51,7 @@ pub fn vacant(image: &[u8], t: Table, s: u16) -> bool
 // The lowest such slot.
 pub fn new_slot(image: &[u8], t: Table) -> Found
     requires { ⌜ length (now image) ≡ 92160 ⌝ }
-    ensures { λ r. ⌜ (r ≡ newSlot (view single (now (image .entry))) t) × Below r ⌝ }
+    ensures { λ r. ⌜ TellsFound success noSlot (newSlot (view single (now (image .entry))) t) r × Below r ⌝ }
 {
     let mut s: u16 = 0;
     while s < 64 {

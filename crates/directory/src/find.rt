@@ -10,7 +10,8 @@ ghost use mathlib.Core.Path.{_≡_};
 ghost use Prim.Native.Nat.{_<_};
 ghost use lib.ListN.{length};
 ghost use Rattle.layout.specs.Image.{single, view};
-ghost use Rattle.layout.specs.Directory.{name, sameName, search, bearsBeside, find, another, putName};
+ghost use Rattle.layout.specs.Directory.{name, sameName, search, TellsFound, bearsBeside, find, another, putName};
+ghost use Rattle.layout.specs.Status.{success, notFound, nameTaken};
 ghost use Rattle.layout.specs.Names.{nameByte};
 ghost use Rattle.channels.specs.Below.{Below};
 
@@ -25,7 +26,7 @@ pub fn same_name(image: &[u8], slot: u16, name: u64, extension: u64) -> bool
 // The first standing slot with the name, slot `beside` left out. Most flags are neither zero nor deleted, so that is tested first.
 pub fn find_beside(image: &[u8], name: u64, extension: u64, beside: u16) -> Found
     requires { ⌜ length (now image) ≡ 92160 ⌝ }
-    ensures { λ r. ⌜ (r ≡ search (view single (now (image .entry))) (bearsBeside (view single (now (image .entry))) (nameByte name extension) beside)) × Below r ⌝ }
+    ensures { λ r. ⌜ (let d = view single (now (image .entry)) in TellsFound nameTaken success (search d (bearsBeside d (nameByte name extension) beside)) r × Below r) ⌝ }
 {
     let mut s: u16 = 0;
     while s < 64 {
@@ -47,7 +48,7 @@ pub fn find_beside(image: &[u8], name: u64, extension: u64, beside: u16) -> Foun
 // The first standing slot with the name. No slot is 64.
 pub fn find(image: &[u8], name: u64, extension: u64) -> Found
     requires { ⌜ length (now image) ≡ 92160 ⌝ }
-    ensures { λ r. ⌜ (r ≡ find (view single (now (image .entry))) (nameByte name extension)) × Below r ⌝ }
+    ensures { λ r. ⌜ TellsFound success notFound (find (view single (now (image .entry))) (nameByte name extension)) r × Below r ⌝ }
 {
     find_beside(image, name, extension, 64)
 }

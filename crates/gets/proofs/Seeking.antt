@@ -15,8 +15,12 @@ use Rattle.layout.proofs.Chain.{fits-data, fits-used}
 use Rattle.rules.specs.declared.Place.{Place}
 use Rattle.rules.specs.declared.Seek.{Seek}
 use Rattle.rules.specs.declared.Seek.the-variants.{Ready, Ended, Broken}
-use Rattle.rules.specs.Get.{place, nextToEnter, hasByte, ends, seek, readable}
+use Rattle.rules.specs.Get.{place, seekStatus, seekPlace, TellsSeek, nextToEnter, hasByte, ends, seek, readable}
 use Rattle.gets.specs.Entered.{Entered, ByteLeft, Sought, full}
+
+-- an answer that is the enum of the rules has its number and its values
+pub tells-seek : {x r : Seek} → r ≡ x → TellsSeek x r
+tells-seek e = (e, ap seekStatus e, ap seekPlace e)
 
 -- where the search found a byte, it is left
 pub sought-left : {g : Geometry} {d : Disk} {q : Seek} {p : Place} → q ≡ Ready p → Sought g d q → ByteLeft g d p

@@ -9,7 +9,7 @@ ghost use mathlib.Core.Path.{_≡_};
 ghost use Prim.Native.Nat.{_≤_, _<_};
 ghost use lib.ListN.{length};
 ghost use Rattle.layout.specs.Image.{single, view};
-ghost use Rattle.rules.specs.Get.{nextToEnter, hasByte, ends, seek};
+ghost use Rattle.rules.specs.Get.{TellsSeek, nextToEnter, hasByte, ends, seek};
 ghost use Rattle.gets.specs.Entered.{Entered, Sought};
 
 // A byte of the entered sector is left.
@@ -48,7 +48,7 @@ fn next_to_enter(image: &[u8], slot: u16, sector: u16) -> u16
 // Sectors are entered until a byte is left, the file ends or a sector cannot be entered.
 pub fn seek_byte(image: &[u8], slot: u16, p: Place) -> Seek
     requires { ⌜ (length (now image) ≡ 92160) × (slot < 64) × Entered single (view single (now image)) (p .sector) ⌝ }
-    ensures { λ r. ⌜ (r ≡ seek single (view single (now (image .entry))) slot (p .sector) (p .offset) (p .left)) × Sought single (view single (now (image .entry))) r ⌝ }
+    ensures { λ r. ⌜ (let d = view single (now (image .entry)) in TellsSeek (seek single d slot (p .sector) (p .offset) (p .left)) r × Sought single d r) ⌝ }
 {
     let mut k = p.sector;
     let mut o = p.offset;

@@ -16,3 +16,4 @@ pub mod Count
 pub mod Chain
 pub mod ChainSteps
 pub mod Packed
+pub mod Tells

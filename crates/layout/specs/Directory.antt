@@ -1,5 +1,7 @@
 -- The directory: sectors 361 to 368, 64 slots of 16 bytes.
 use mathlib.Core.Bool.{Bool, true, false, not, _&&_, _||_}
+use mathlib.Core.List.{List, [], _∷_}
+use mathlib.Core.Path.{_≡_}
 use Prim.Native.Nat.{ℕ, suc, zero, _+_, _*_, _/_, _%_}
 use lib.Dec.{eqb, ltb}
 use Rattle.layout.specs.declared.Found.{Found}
@@ -96,6 +98,20 @@ stops d p s = eqb (flag d s) 0 || p s
 -- the first slot that passes before a flag byte of zero, or none
 unfoldable pub search : Disk → (ℕ → Bool) → Found
 search d p = let s = firstFrom (stops d p) 64 0 in if (eqb s 64 || eqb (flag d s) 0) Nothing (At s)
+
+-- the number of each case: that of a slot found, or that of none. A name is 1 or 170, a new file's slot 1 or 169; another slot with the name is 201, none 1
+abbrev pub foundStatus : ℕ → ℕ → Found → ℕ
+foundStatus one none (At s) = one
+foundStatus one none Nothing = none
+
+-- the values of each case: the slot, or none
+abbrev pub foundSlots : Found → List ℕ
+foundSlots (At s) = s ∷ []
+foundSlots Nothing = []
+
+-- the promise of a function that answers a slot, where the rules answer f: the same case, with its number and its values
+abbrev pub TellsFound : ℕ → ℕ → Found → Found → Type 0
+TellsFound one none f r = (r ≡ f) × (foundStatus one none r ≡ foundStatus one none f) × (foundSlots r ≡ foundSlots f)
 
 -- what follows with the slot found, or without one
 unfoldable pub found : {A : Type 0} → Found → A → (ℕ → A) → A

@@ -13,7 +13,7 @@ use layout::status::SUCCESS;
 ghost use mathlib.Core.Path.{_≡_};
 ghost use Prim.Native.Nat.{_+_, _≤_, _<_};
 ghost use lib.ListN.{length};
-ghost use Rattle.layout.specs.Names.{hasDevice, hasUnit, body, nameEnd, wholeEnd, wellFormed, padded, packed, nameByte, nameAt, readAs, readName, oldName, newName, readDevice, nameStatus};
+ghost use Rattle.layout.specs.Names.{hasDevice, hasUnit, body, nameEnd, wholeEnd, wellFormed, padded, packed, nameByte, nameAt, readAs, readName, oldName, newName, readDevice, nameStatus, TellsName};
 ghost use Rattle.chars.specs.Ends.{endsBy};
 
 // `D`, an optional digit, and a colon.
@@ -135,21 +135,21 @@ fn read_as(by_comma: bool, text: &[u8]) -> Name
 
 // The eleven padded bytes of a name, or its one refusal.
 pub fn read_name(text: &[u8]) -> Name
-    ensures { λ r. ⌜ r ≡ readName (now (text .entry)) ⌝ }
+    ensures { λ r. ⌜ TellsName (readName (now (text .entry))) r ⌝ }
 {
     read_as(false, text)
 }
 
 // The first of rename's two names.
 pub fn old_name(text: &[u8]) -> Name
-    ensures { λ r. ⌜ r ≡ oldName (now (text .entry)) ⌝ }
+    ensures { λ r. ⌜ TellsName (oldName (now (text .entry))) r ⌝ }
 {
     read_as(true, text)
 }
 
 // The second of them, behind the comma.
 pub fn new_name(text: &[u8]) -> Name
-    ensures { λ r. ⌜ r ≡ newName (now (text .entry)) ⌝ }
+    ensures { λ r. ⌜ TellsName (newName (now (text .entry))) r ⌝ }
 {
     let i = body(text);
     let e = name_end(text, i);

@@ -1,4 +1,5 @@
 use borrow.Author.Needs.{needs}
+use Rattle.layout.proofs.Tells.{tells-name}
 use Rattle.layout.specs.Names.{newName}
 use Rattle.names.proofs.new_name.Statement.{statement}
 use Rattle.names.proofs.new_name.Tie as tie
@@ -20,7 +21,7 @@ name-at-requires c κs = search needs
 
 returns : tie.Need-returns
 unfolding newName
-returns c = cc
+returns c = tells-name (cc)
 
 pub new-name-spec : {M : Type 1} → statement M
 new-name-spec =

@@ -1,4 +1,6 @@
 use Rattle.layout.proofs.Search.{first-end, first-stop, first-next}
+use Rattle.layout.specs.Status.{success, noSlot}
+use Rattle.layout.proofs.Tells.{tells-found}
 use Rattle.layout.specs.Channels.{vacant, newSlot}
 use Rattle.layout.specs.Image.{single, view}
 use Rattle.layout.specs.Basics.{firstFrom}
@@ -26,7 +28,7 @@ returns : tie.Need-returns Inv-loop μ-loop
 unfolding newSlot
 returns c =
     let loop = c .before .before .before .loop in
-    let e = loop .inv .1 ∙ first-stop _ _ _ (sym (c .before .vacant .ensures) ∙ c .if1 .taken) in (rw (e, ne-eqb (loop .s) 64 (λ z. omega arith)), c .before .before .loop-test .taken)
+    let e = loop .inv .1 ∙ first-stop _ _ _ (sym (c .before .vacant .ensures) ∙ c .if1 .taken) in (tells-found success noSlot (rw (e, ne-eqb (loop .s) 64 (λ z. omega arith))), c .before .before .loop-test .taken)
 
 add-s : tie.Need-add-s Inv-loop μ-loop
 add-s c = search needs
@@ -39,7 +41,7 @@ loop-again c = (omega arith, c .before .before .before .loop .inv .1 ∙ first-n
 
 returns-2 : tie.Need-returns-2 Inv-loop μ-loop
 unfolding newSlot
-returns-2 c = let s : c .before .loop .s ≡ 64 = omega arith in let e = c .before .loop .inv .1 ∙ first-end _ 64 _ (c .loop-test .left) ∙ s in (rw e, tt)
+returns-2 c = let s : c .before .loop .s ≡ 64 = omega arith in let e = c .before .loop .inv .1 ∙ first-end _ 64 _ (c .loop-test .left) ∙ s in (tells-found success noSlot (rw e), tt)
 
 pub new-slot-spec : {M : Type 1} → statement M
 new-slot-spec =

@@ -17,11 +17,11 @@ past-open c = (_, check-no _ _ _ (sym (c .before .open-at .ensures) ∙ c .if1 .
 
 abbrev past-old : (c : tie.After-known-told) → Further (past-open (c .before .before .before .before))
 unfolding renameCall
-past-old c = (_, past-open (c .before .before .before .before) .1 ∙ named-is _ _ _ (sym (c .before .before .before .old-name .ensures) ∙ c .before .n .given .1))
+past-old c = (_, past-open (c .before .before .before .before) .1 ∙ named-is _ _ _ (sym (c .before .before .before .old-name .ensures .0) ∙ c .before .n .given .1))
 
 abbrev past-new : (c : tie.After-known-told2) → Further (past-old (c .before .before .before .before))
 unfolding renameCall
-past-new c = (_, past-old (c .before .before .before .before) .1 ∙ named-is _ _ _ (sym (c .before .before .before .new-name .ensures) ∙ c .before .m .given .1))
+past-new c = (_, past-old (c .before .before .before .before) .1 ∙ named-is _ _ _ (sym (c .before .before .before .new-name .ensures .0) ∙ c .before .m .given .1))
 
 abbrev past-good : (c : tie.Else2) → Further (past-new (c .before .before .before))
 unfolding renameCall
@@ -29,7 +29,7 @@ past-good c = (_, past-new (c .before .before .before) .1 ∙ check-no _ _ _ (ap
 
 abbrev past-found : (c : tie.After-known-told3) → Further (past-good (c .before .before .before .before .before))
 unfolding renameCall
-past-found c = (_, past-good (c .before .before .before .before .before) .1 ∙ found-at _ _ _ (sym (c .before .before .before .find .ensures .0) ∙ c .before .f .given .1))
+past-found c = (_, past-good (c .before .before .before .before .before) .1 ∙ found-at _ _ _ (sym (c .before .before .before .find .ensures .0 .0) ∙ c .before .f .given .1))
 
 abbrev past-locked : (c : tie.Else3) → Further (past-found (c .before .before .before .before .before .before))
 unfolding renameCall
@@ -77,7 +77,7 @@ returns-2 : tie.Need-returns-2
 unfolding renameCall
 returns-2 c =
     let p1 = c .before .before .before .before in
-    let q = c .before .before .enum-told .given .1 in let e = past-open (p1 .before) .1 ∙ named-refused _ _ _ (sym (p1 .old-name .ensures) ∙ q) in (told _ e (c .answer2 .ensures ∙ rw (c .before .name-status .ensures, q)), told-disk _ e refl)
+    let q = c .before .before .enum-told .given .1 in let e = past-open (p1 .before) .1 ∙ named-refused _ _ _ (sym (p1 .old-name .ensures .0) ∙ q) in (told _ e (c .answer2 .ensures ∙ rw (c .before .name-status .ensures, q)), told-disk _ e refl)
 
 new-name-requires : tie.Need-new-name-requires
 new-name-requires c κs = search needs
@@ -98,7 +98,7 @@ returns-3 : tie.Need-returns-3
 unfolding renameCall
 returns-3 c =
     let p1 = c .before .before .before .before in
-    let q = c .before .before .enum-told2 .given .1 in let e = past-old (p1 .before) .1 ∙ named-refused _ _ _ (sym (p1 .new-name .ensures) ∙ q) in (told _ e (c .answer3 .ensures ∙ rw (c .before .name-status2 .ensures, q)), told-disk _ e refl)
+    let q = c .before .before .enum-told2 .given .1 in let e = past-old (p1 .before) .1 ∙ named-refused _ _ _ (sym (p1 .new-name .ensures .0) ∙ q) in (told _ e (c .answer3 .ensures ∙ rw (c .before .name-status2 .ensures, q)), told-disk _ e refl)
 
 table-good-requires : tie.Need-table-good-requires
 table-good-requires c κs = search needs
@@ -130,7 +130,7 @@ same-length-2 c = search needs
 
 returns-5 : tie.Need-returns-5
 unfolding renameCall
-returns-5 c = let e = past-good (c .before .before .before .before .before) .1 ∙ found-nothing _ _ _ (sym (c .before .before .before .find .ensures .0) ∙ c .before .enum-told3 .given .1) in (told _ e (c .answer5 .ensures), told-disk _ e refl)
+returns-5 c = let e = past-good (c .before .before .before .before .before) .1 ∙ found-nothing _ _ _ (sym (c .before .before .before .find .ensures .0 .0) ∙ c .before .enum-told3 .given .1) in (told _ e (c .answer5 .ensures), told-disk _ e refl)
 
 flag-requires : tie.Need-flag-requires
 flag-requires c κs = (c .before .before .before .before .before .before .before .before .before .before .before .before .before .before .before .before .before .before .before .before .before .before .pre .0, below (c .before .before))
@@ -168,7 +168,10 @@ unfolding renameCall
 returns-7 c = let e = past-locked (c .before .before) .1 ∙ check-yes _ _ _ (sym (c .before .before .before .held .ensures) ∙ c .before .if4 .taken) in (told _ e (c .answer7 .ensures), told-disk _ e refl)
 
 another-requires : tie.Need-another-requires
-another-requires c κs = search needs
+another-requires c κs =
+    let p1 = c .before .before .before .before .before .before .before .before .before in
+    let p2 = p1 .before .before .before .before .before .before .before .before .before .before .before .before .before .before .before .before .before .before .before .before in
+    p2 .pre .0
 
 answer-requires-8 : tie.Need-answer-requires-8
 answer-requires-8 c κs = search needs

@@ -7,6 +7,8 @@ use borrow.Author.Needs.{needs}
 use Rattle.layout.specs.Image.{single, view}
 use Rattle.layout.specs.Directory.{standing, bearsBeside}
 use Rattle.layout.specs.Names.{nameByte}
+use Rattle.layout.specs.Status.{success, nameTaken}
+use Rattle.layout.proofs.Tells.{tells-found}
 use Rattle.directory.proofs.Search.{Come, search-pass, search-zero, search-end, search-next, standing-nonzero, beside-stands, beside-fallen}
 use Rattle.directory.proofs.find.find_beside.Statement.{statement}
 use Rattle.directory.proofs.find.find_beside.Tie as tie
@@ -32,10 +34,10 @@ same-name-requires c κs = search needs
 returns : tie.Need-returns Inv-loop μ-loop
 returns c = let t = ap standing (sym (c .before .before .before .before .flag .ensures)) ∙ sym (c .before .before .before .standing .ensures) ∙ c .before .before .if1 .taken in
     let l = c .before .before .before .before .before .loop-test .taken in
-    (search-pass _ _ _ (c .before .before .before .before .before .before .loop .inv .1) l (standing-nonzero _ t) (beside-stands _ _ _ _ true t (rw (← c .before .same-name .ensures) (c .if2 .taken))), l)
+    (tells-found nameTaken success (search-pass _ _ _ (c .before .before .before .before .before .before .loop .inv .1) l (standing-nonzero _ t) (beside-stands _ _ _ _ true t (rw (← c .before .same-name .ensures) (c .if2 .taken)))), l)
 
 returns-2 : tie.Need-returns-2 Inv-loop μ-loop
-returns-2 c = (search-zero _ _ _ (c .before .before .before .before .before .loop .inv .1) (sym (c .before .before .before .flag .ensures) ∙ c .if3 .taken), tt)
+returns-2 c = (tells-found nameTaken success (search-zero _ _ _ (c .before .before .before .before .before .loop .inv .1) (sym (c .before .before .before .flag .ensures) ∙ c .if3 .taken)), tt)
 
 add-s : tie.Need-add-s Inv-loop μ-loop
 add-s c = search needs
@@ -54,7 +56,7 @@ loop-again c = let f = c .before .before .flag .ensures in
     )
 
 returns-3 : tie.Need-returns-3 Inv-loop μ-loop
-returns-3 c = (search-end _ _ _ (c .before .loop .inv .1) (c .loop-test .left) (omega arith), tt)
+returns-3 c = (tells-found nameTaken success (search-end _ _ _ (c .before .loop .inv .1) (c .loop-test .left) (omega arith)), tt)
 
 pub find-beside-spec : {M : Type 1} → statement M
 find-beside-spec =

@@ -43,7 +43,7 @@ loop-again c =
     let call = c .before .before .before in
     let found = call .before .before .before in
     let inv = found .before .before .before .before .loop .inv in
-    (omega arith, gets-on (gets-found (inv .1) (omega arith) _ (sym (found .before .before .seek-byte .ensures .0) ∙ found .s .given .1) (left found)) (inv .0) (call .get-here .ensures .1))
+    (omega arith, gets-on (gets-found (inv .1) (omega arith) _ (sym (found .before .before .seek-byte .ensures .0 .0) ∙ found .s .given .1) (left found)) (inv .0) (call .get-here .ensures .1))
 
 enum-known-s-2 : tie.Need-enum-known-s-2 Inv-loop μ-loop
 enum-known-s-2 c = search needs
@@ -57,7 +57,7 @@ same-length c = search needs
 returns : tie.Need-returns Inv-loop μ-loop
 returns c =
     let at = c .before .before .before .before in
-    let e = gets-ended (at .before .before .loop .inv .1) (omega arith) _ (sym (at .seek-byte .ensures .0) ∙ c .before .before .s2 .given .1) in
+    let e = gets-ended (at .before .before .loop .inv .1) (omega arith) _ (sym (at .seek-byte .ensures .0 .0) ∙ c .before .before .s2 .given .1) in
     (c .got .ensures ∙ sym (ap (λ o. o .got) e), sym (ap (λ o. o .buffer) e))
 
 enum-known-s-3 : tie.Need-enum-known-s-3 Inv-loop μ-loop
@@ -72,7 +72,7 @@ same-length-2 c = search needs
 returns-2 : tie.Need-returns-2 Inv-loop μ-loop
 returns-2 c =
     let at = c .before .before .before .before in
-    let e = gets-broken (at .before .before .loop .inv .1) (omega arith) _ (sym (at .seek-byte .ensures .0) ∙ c .before .before .s3 .given .1) in
+    let e = gets-broken (at .before .before .loop .inv .1) (omega arith) _ (sym (at .seek-byte .ensures .0 .0) ∙ c .before .before .s3 .given .1) in
     (c .got2 .ensures ∙ sym (ap (λ o. o .got) e), sym (ap (λ o. o .buffer) e))
 
 got-requires-3 : tie.Need-got-requires-3 Inv-loop μ-loop

@@ -1,4 +1,4 @@
-use Rattle.gets.proofs.Seeking.{fits-entered, byte-left, seek-ready, seek-ended, seek-out, seek-not, seek-on}
+use Rattle.gets.proofs.Seeking.{tells-seek, fits-entered, byte-left, seek-ready, seek-ended, seek-out, seek-not, seek-on}
 use Rattle.gets.specs.Entered.{Entered}
 use Rattle.rules.specs.Get.{seek}
 use Rattle.layout.specs.Image.{single, view}
@@ -24,23 +24,23 @@ has-byte-requires c κs = (omega arith, c .loop .inv .0 .most)
 returns : tie.Need-returns Inv-loop μ-loop
 returns c =
     let loop = c .before .before .loop in
-    let e = sym (c .before .has-byte .ensures) ∙ c .if1 .taken in (sym (loop .inv .1 ∙ seek-ready _ _ _ _ _ _ e), byte-left _ _ _ _ _ (loop .inv .0) e)
+    let e = sym (c .before .has-byte .ensures) ∙ c .if1 .taken in (tells-seek (sym (loop .inv .1 ∙ seek-ready _ _ _ _ _ _ e)), byte-left _ _ _ _ _ (loop .inv .0) e)
 
 ends-requires : tie.Need-ends-requires Inv-loop μ-loop
 ends-requires c κs = (omega arith, c .before .before .loop .inv .0 .most)
 
 returns-2 : tie.Need-returns-2 Inv-loop μ-loop
 returns-2 c = (
-  sym (c .before .before .before .before .loop .inv .1
-      ∙ seek-ended _ _ _ _ _ _ (sym (c .before .before .before .has-byte .ensures) ∙ c .before .before .if1 .left) (sym (c .before .ends .ensures) ∙ c .if2 .taken)),
+  tells-seek (sym (c .before .before .before .before .loop .inv .1
+      ∙ seek-ended _ _ _ _ _ _ (sym (c .before .before .before .has-byte .ensures) ∙ c .before .before .if1 .left) (sym (c .before .ends .ensures) ∙ c .if2 .taken))),
   tt,
 )
 
 returns-3 : tie.Need-returns-3 Inv-loop μ-loop
 returns-3 c =
     let at = c .before .before .before .before in (
-      sym (at .before .loop .inv .1
-          ∙ seek-out _ _ _ _ _ _ (sym (at .has-byte .ensures) ∙ c .before .before .before .if1 .left) (sym (c .before .before .ends .ensures) ∙ c .before .if2 .left) (c .if3 .taken)),
+      tells-seek (sym (at .before .loop .inv .1
+          ∙ seek-out _ _ _ _ _ _ (sym (at .has-byte .ensures) ∙ c .before .before .before .if1 .left) (sym (c .before .before .ends .ensures) ∙ c .before .if2 .left) (c .if3 .taken))),
       tt,
     )
 
@@ -53,8 +53,8 @@ fits-requires c κs = search needs
 returns-4 : tie.Need-returns-4 Inv-loop μ-loop
 returns-4 c =
     let at = c .before .before .before .before in (
-      sym (at .before .before .before .before .loop .inv .1
-          ∙ seek-not _ _ _ _ _ _ (c .before .before .next-to-enter .ensures) _ (sym (at .before .before .before .has-byte .ensures) ∙ at .before .before .if1 .left) (sym (at .before .ends .ensures) ∙ at .if2 .left) (sym (c .before .fits2 .ensures) ∙ not-true _ (c .if4 .taken))),
+      tells-seek (sym (at .before .before .before .before .loop .inv .1
+          ∙ seek-not _ _ _ _ _ _ (c .before .before .next-to-enter .ensures) _ (sym (at .before .before .before .has-byte .ensures) ∙ at .before .before .if1 .left) (sym (at .before .ends .ensures) ∙ at .if2 .left) (sym (c .before .fits2 .ensures) ∙ not-true _ (c .if4 .taken)))),
       tt,
     )
 

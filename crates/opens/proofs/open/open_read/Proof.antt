@@ -12,11 +12,11 @@ use Rattle.opens.proofs.open.open_read.Tie as tie
 
 abbrev past-name : (c : tie.After-known-told) → let a = c .before .before .before .before .before .before .args in Down (openRead single (view single (a .image .now)) (a .t) (a .c) (a .text .now))
 unfolding openRead
-past-name c = (_, named-is _ _ _ (sym (c .before .before .before .read-name .ensures) ∙ c .before .n .given .1))
+past-name c = (_, named-is _ _ _ (sym (c .before .before .before .read-name .ensures .0) ∙ c .before .n .given .1))
 
 abbrev past-found : (c : tie.After-known-told2) → Further (past-name (c .before .before .before .before))
 unfolding openRead
-past-found c = (_, past-name (c .before .before .before .before) .1 ∙ found-at _ _ _ (sym (c .before .before .before .find .ensures .0) ∙ c .before .f .given .1))
+past-found c = (_, past-name (c .before .before .before .before) .1 ∙ found-at _ _ _ (sym (c .before .before .before .find .ensures .0 .0) ∙ c .before .f .given .1))
 
 below : (c : tie.After-f) → c .f .given .0 .0 < 64
 below c = subst Below (c .f .given .1) (c .before .before .find .ensures .1)
@@ -38,7 +38,7 @@ answer-requires c κs = search needs
 
 returns : tie.Need-returns
 unfolding openRead
-returns c = let q = c .before .before .enum-told .given .1 in let e = named-refused _ _ _ (sym (c .before .before .before .before .read-name .ensures) ∙ q) in (told _ e (c .answer .ensures ∙ rw (c .before .name-status .ensures, q)), told-disk _ e refl)
+returns c = let q = c .before .before .enum-told .given .1 in let e = named-refused _ _ _ (sym (c .before .before .before .before .read-name .ensures .0) ∙ q) in (told _ e (c .answer .ensures ∙ rw (c .before .name-status .ensures, q)), told-disk _ e refl)
 
 find-requires : tie.Need-find-requires
 find-requires c κs = search needs
@@ -54,7 +54,7 @@ answer-requires-2 c κs = search needs
 
 returns-2 : tie.Need-returns-2
 unfolding openRead
-returns-2 c = let e = past-name (c .before .before .before .before) .1 ∙ found-nothing _ _ _ (sym (c .before .before .before .find .ensures .0) ∙ c .before .enum-told2 .given .1) in (told _ e (c .answer2 .ensures), told-disk _ e refl)
+returns-2 c = let e = past-name (c .before .before .before .before) .1 ∙ found-nothing _ _ _ (sym (c .before .before .before .find .ensures .0 .0) ∙ c .before .enum-told2 .given .1) in (told _ e (c .answer2 .ensures), told-disk _ e refl)
 
 flag-requires : tie.Need-flag-requires
 flag-requires c κs = (c .before .before .before .before .before .before .before .before .before .before .pre .0, below (c .before))

@@ -17,7 +17,7 @@ use Rattle.opens.proofs.write.open_new.Tie as tie
 
 abbrev past-slot : (c : tie.After-known-told) → let a = c .before .before .before .before .before .before .args in Down (openNew single (view single (a .image .now)) (a .t) (a .c) [] (nameByte (a .name) (a .extension)))
 unfolding openNew
-past-slot c = (_, found-at _ _ _ (sym (c .before .before .before .new-slot .ensures .0) ∙ c .before .f .given .1))
+past-slot c = (_, found-at _ _ _ (sym (c .before .before .before .new-slot .ensures .0 .0) ∙ c .before .f .given .1))
 
 below : (c : tie.After-f) → c .f .given .0 .0 < 64
 below c = subst Below (c .f .given .1) (c .before .before .new-slot .ensures .1)
@@ -39,7 +39,7 @@ same-length c = search needs
 
 returns : tie.Need-returns
 unfolding openNew
-returns c = let e = found-nothing _ _ _ (sym (c .before .before .before .new-slot .ensures .0) ∙ c .before .enum-told .given .1) in (told _ e (c .answer .ensures), told-disk _ e refl)
+returns c = let e = found-nothing _ _ _ (sym (c .before .before .before .new-slot .ensures .0 .0) ∙ c .before .enum-told .given .1) in (told _ e (c .answer .ensures), told-disk _ e refl)
 
 lowest-free-requires : tie.Need-lowest-free-requires
 lowest-free-requires c κs = search needs

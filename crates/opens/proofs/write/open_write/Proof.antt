@@ -12,7 +12,7 @@ use Rattle.opens.proofs.write.open_write.Tie as tie
 
 abbrev past-name : (c : tie.After-known-told) → let a = c .before .before .before .before .before .before .args in Down (openWrite single (view single (a .image .now)) (a .t) (a .c) (a .text .now))
 unfolding openWrite
-past-name c = (_, named-is _ _ _ (sym (c .before .before .before .read-name .ensures) ∙ c .before .n .given .1))
+past-name c = (_, named-is _ _ _ (sym (c .before .before .before .read-name .ensures .0) ∙ c .before .n .given .1))
 
 abbrev past-good : (c : tie.Else1) → Further (past-name (c .before .before .before))
 unfolding openWrite
@@ -35,7 +35,7 @@ answer-requires c κs = search needs
 
 returns : tie.Need-returns
 unfolding openWrite
-returns c = let q = c .before .before .enum-told .given .1 in let e = named-refused _ _ _ (sym (c .before .before .before .before .read-name .ensures) ∙ q) in (told _ e (c .answer .ensures ∙ rw (c .before .name-status .ensures, q)), told-disk _ e refl)
+returns c = let q = c .before .before .enum-told .given .1 in let e = named-refused _ _ _ (sym (c .before .before .before .before .read-name .ensures .0) ∙ q) in (told _ e (c .answer .ensures ∙ rw (c .before .name-status .ensures, q)), told-disk _ e refl)
 
 table-good-requires : tie.Need-table-good-requires
 table-good-requires c κs = search needs
@@ -70,7 +70,7 @@ unfolding openWrite openNew
 returns-3 c =
     let p1 = c .before .before .before .before in
     let p2 = p1 .before .before .before .before in
-    let r = c .before .before .open-new .ensures in let e = past-good p2 .1 ∙ found-nothing _ _ _ (sym (p1 .before .before .find .ensures .0) ∙ p1 .enum-told2 .given .1) in (told _ e (r .0), told-disk _ e (r .1))
+    let r = c .before .before .open-new .ensures in let e = past-good p2 .1 ∙ found-nothing _ _ _ (sym (p1 .before .before .find .ensures .0 .0) ∙ p1 .enum-told2 .given .1) in (told _ e (r .0), told-disk _ e (r .1))
 
 open-found-requires : tie.Need-open-found-requires
 open-found-requires c κs =
@@ -87,7 +87,7 @@ unfolding openWrite openFound
 returns-4 c =
     let p1 = c .before .before .before .before .before in
     let p2 = p1 .before .before .before .before in
-    let r = c .before .before .open-found .ensures in let e = past-good p2 .1 ∙ found-at _ _ _ (sym (p1 .before .before .find .ensures .0) ∙ p1 .f .given .1) in (told _ e (r .0), told-disk _ e (r .1))
+    let r = c .before .before .open-found .ensures in let e = past-good p2 .1 ∙ found-at _ _ _ (sym (p1 .before .before .find .ensures .0 .0) ∙ p1 .f .given .1) in (told _ e (r .0), told-disk _ e (r .1))
 
 pub open-write-spec : {M : Type 1} → statement M
 open-write-spec =
