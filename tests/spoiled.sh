@@ -3,9 +3,11 @@
 # that must be refused for it, with the file in which the refusal has to stand: `crate:`, `file:`, `old:`, `new:` (one line
 # each, old and new in pairs), `refused:`, `at:`.
 # The crates are copied aside, the change is made in the copy, and every crate up to the refused one is proved. Where an
-# example has to refuse it, `at: specs/..`, the laws in proofs/ are left out, since they may refuse it before the example does.
+# example has to refuse it, `at: specs/..`, the laws in proofs/ are left out, since they may refuse it before the example does;
+# where a theorem has to, `at: proofs/..`, the computed examples are left out for the same reason.
 # The refusal has to be at a fact: a missing name or a definition that is no longer well formed does not count.
-# First the same copies are proved unedited: where they fail by themselves, that an edit is refused means nothing.
+# First the same copies are proved unedited: where they fail by themselves, that an edit is refused means nothing. A crate that
+# an edit leaves as it was, with all below it, is not proved again.
 # Ends with 'N passed, M failed', a copy proved unedited or an edit refused being one passed; exits non-zero where one failed.
 set -uo pipefail
 cd "$(dirname "$0")/.."
@@ -54,7 +56,11 @@ copy_crates() {
 copy_for() {
     case $3 in
     specs/*) copy_crates "$1" "$2" src specs ;;
-    *) copy_crates "$1" "$2" src specs proofs ;;
+    *)
+        copy_crates "$1" "$2" src specs proofs
+        rm "$1/crates/rules/specs/Examples.antt"
+        sed -i '/^pub mod Examples$/d' "$1/crates/rules/specs/Lib.antt"
+        ;;
     esac
 }
 
@@ -67,12 +73,13 @@ copies() {
     done | sort -u
 }
 
-# Proves one copy unedited; writes its verdict to $work/unedited.CRATE.PART.res.
+# Proves one copy unedited; writes its verdict to $work/unedited.CRATE.PART.res and leaves its proofs for the edits.
 unedited() {
     local top=$1 part=$2 place=$work/unedited.$1.$2
     copy_for "$place" "$top" "$part/"
     if (cd "$place" && RT_JOBS=1 rt check "$top") >"$place.log" 2>&1; then
         echo "proved: $top unedited, for refusals in $part/" >"$place.res"
+        mv "$place/target" "$place.target"
     else
         tail -n 20 "$place.log" | cut -c1-1000
         echo "unedited $top NOT PROVED, for refusals in $part/: $(tail -n 1 "$place.log")" >"$place.res"
@@ -102,6 +109,7 @@ try() {
         esac
     done <"$edit"
     log=$place.log
+    cp -R "$work/unedited.$refused.${at%%/*}.target" "$place/target"
     (cd "$place" && RT_JOBS=1 rt check "$refused") >"$log" 2>&1
     found=$(grep -m 1 -E "/$at:[0-9]+:[0-9]+: error" "$log" | cut -c1-1000)
     if ! grep -q "^rt: FAILED: $refused\$" "$log"; then

@@ -77,6 +77,11 @@ module _ (f : ℕ → ℕ) where
   values-at (suc n) j zero h = ap f (sym (add-zero j))
   values-at (suc n) j (suc i) h = values-at n (j + 1) i (omega arith) ∙ ap f (omega arith)
 
+-- an image of n bytes has n bytes
+pub image-length : (g : Geometry) (n : ℕ) (d : Disk) → length (imageOf g n d) ≡ n
+unfolding imageOf
+image-length g n d = values-length _ n 0
+
 module _ (g : Geometry) (lawful : Lawful g) where
   -- the image that holds the disk of an image is that image, whatever its length
   pub image-view : (l : List ℕ) → imageOf g (length l) (view g l) ≡ l
@@ -87,7 +92,7 @@ module _ (g : Geometry) (lawful : Lawful g) where
       at i = view g l (g .sectorOf i) (g .placeOf i)
 
       size : length (imageOf g (length l) (view g l)) ≡ length l
-      size = values-length at (length l) 0
+      size = image-length g (length l) (view g l)
 
   -- so the disk after a call, and the length, which a call never changes, say every byte of the image after it
   pub image-of : (l : List ℕ) (n : ℕ) (d : Disk) → length l ≡ n → view g l ≡ d → l ≡ imageOf g n d

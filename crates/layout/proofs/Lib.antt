@@ -5,6 +5,7 @@ pub mod Give
 pub mod Data
 pub mod Check
 pub mod Image
+pub mod Run
 pub mod Channels
 pub mod Bits
 pub mod Map

@@ -8,9 +8,8 @@ use native.Mathlib.Numerals.{add-one}
 use native.Mathlib.Omega.{arith}
 use lib.ListN.{length, getD, take, drop, set, length-set, drop-of-length-le}
 use lib.Seq.{drop-cons, sets}
-use Rattle.layout.specs.Basics.{valuesFrom}
 use Rattle.layout.specs.Image.{Geometry, inside, view, putRun}
-use Rattle.layout.proofs.Image.{Lawful, view-byte, view-set}
+use Rattle.layout.proofs.Image.{Lawful, view-set}
 
 -- a turn of a copy stores one byte more, and behind the last nothing is left to store
 pub sets-next : (l : List ℕ) (i j : ℕ) (xs : List ℕ) → j < length xs → sets l (i + j) (drop j xs) ≡ sets (set l (i + j) (getD xs j 0)) (i + (j + 1)) (drop (j + 1) xs)
@@ -36,14 +35,3 @@ module _ (g : Geometry) (lawful : Lawful g) where
       let e : suc (g .start k + j) ≡ g .start k + (j + 1) = omega arith in
       rw e (view-sets xs (set l (g .start k + j) x) k (j + 1) (λ i q. let d : j + 1 + i ≡ j + suc i = omega arith in rw d (f (suc i) (omega arith))) (rw length-set (omega arith))
       ∙ ap (λ d. putRun d k (j + 1) xs) (view-set g lawful l k j x here (omega arith)))
-
-  -- a part of the image, within one sector, has that sector's bytes
-  pub part-values : (n : ℕ) (l : List ℕ) (k j : ℕ) → ((i : ℕ) → i < n → inside g k (j + i) ≡ true) → g .start k + j + n ≤ length l
-      → take n (drop (g .start k + j) l) ≡ valuesFrom (view g l k) n j
-  unfolding valuesFrom
-  part-values zero l k j f h = refl
-  part-values (suc n) l k j f h =
-      let here : inside g k j ≡ true = rw (add-zero j) at (f 0 (omega arith)) in
-      let e : suc (g .start k + j) ≡ g .start k + (j + 1) = omega arith in
-      let q : g .start k + j < length l = omega arith in
-      rw (drop-cons l (g .start k + j) 0 q, e, view-byte g lawful l k j here) (ap (λ xs. getD l (g .start k + j) 0 ∷ xs) (part-values n l k (j + 1) (λ i q. let d : j + 1 + i ≡ j + suc i = omega arith in rw d (f (suc i) (omega arith))) (omega arith)))

@@ -2,7 +2,7 @@ use native.Mathlib.Omega.{arith}
 use mathlib.Core.Path.{_≡_, ap, _∙_}
 use Prim.Native.Nat.{_+_, _-_, _*_}
 use lib.Seq.{sets}
-use Rattle.runs.proofs.Runs.{part-values}
+use Rattle.layout.proofs.Run.{part-values}
 use Rattle.layout.specs.Image.{single}
 use Rattle.layout.proofs.Image.{single-inside, single-lawful}
 use borrow.Author.Needs.{needs}

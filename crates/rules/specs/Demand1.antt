@@ -1,0 +1,178 @@
+-- Demand 1: every call ends with a status number. A refused call reports no bytes and changes nothing, but for the listed partial transfers.
+use mathlib.Core.Bool.{true, false}
+use mathlib.Core.List.{List, [], _∷_}
+use mathlib.Core.Logic.{_≢_}
+use mathlib.Core.Path.{_≡_}
+use Prim.Native.Nat.{ℕ, _+_, _/_, _≤_}
+use lib.Dec.{leb, ltb, eqb}
+use lib.ListN.{length, drop}
+use Rattle.layout.specs.declared.State.{State}
+use Rattle.layout.specs.declared.State.the-variants.{Closed, Writing}
+use Rattle.layout.specs.declared.Table.{Table}
+use Rattle.layout.specs.declared.Channel.{Channel}
+use Rattle.rules.specs.declared.Block.{Block}
+use Rattle.layout.specs.Basics.{check, member}
+use Rattle.layout.specs.Image.{Disk, single, view, imageOf}
+use Rattle.layout.specs.Channels.{stateOf, withState}
+use Rattle.layout.specs.Status.{success, badImage, badChannel, badCommand, notServed, channelOpen, noChannel, channelClosed, writeOnly, readOnly, badDevice, badUnit, badName, badTable, notFound, fileLocked, fileHeld, badChain, nameTaken, noSlot, diskFull, endOfFile, lostChain, noDevice, badRequest, badLength}
+use Rattle.rules.specs.Cio.{Outcome, cioCall}
+use Rattle.rules.specs.Recovery.{recoverCall}
+use Rattle.rules.specs.Sectors.{sectorCall}
+use Rattle.rules.specs.Showing.{shows}
+use Rattle.rules.specs.Thin.{thinGet, thinPut}
+
+-- the status numbers that each command can answer, in the order of the table. An open for input
+abbrev pub readAnswers : List ℕ
+readAnswers = success ∷ channelOpen ∷ noChannel ∷ badDevice ∷ badUnit ∷ badName ∷ notFound ∷ fileHeld ∷ []
+
+-- those of an open for output
+abbrev pub writeAnswers : List ℕ
+writeAnswers = success ∷ channelOpen ∷ noChannel ∷ badDevice ∷ badUnit ∷ badName ∷ badTable ∷ fileLocked ∷ fileHeld ∷ badChain ∷ noSlot ∷ diskFull ∷ []
+
+-- those of an open, by its direction
+unfoldable pub openAnswers : ℕ → List ℕ
+openAnswers direction =
+    check (eqb direction 4) readAnswers λ _.
+    check (eqb direction 8) writeAnswers λ _.
+    channelOpen ∷ noChannel ∷ notServed ∷ []
+
+-- those of a get
+abbrev pub getAnswers : List ℕ
+getAnswers = success ∷ channelClosed ∷ writeOnly ∷ endOfFile ∷ badChain ∷ []
+
+-- those of a put
+abbrev pub putAnswers : List ℕ
+putAnswers = success ∷ channelClosed ∷ readOnly ∷ badTable ∷ badChain ∷ diskFull ∷ []
+
+-- those of a close
+abbrev pub closeAnswers : List ℕ
+closeAnswers = success ∷ badChain ∷ []
+
+-- a status
+abbrev pub statusAnswers : List ℕ
+statusAnswers = success ∷ channelOpen ∷ badDevice ∷ badUnit ∷ badName ∷ notFound ∷ fileLocked ∷ []
+
+-- those of a rename
+abbrev pub renameAnswers : List ℕ
+renameAnswers = success ∷ channelOpen ∷ badDevice ∷ badUnit ∷ badName ∷ badTable ∷ notFound ∷ fileLocked ∷ fileHeld ∷ nameTaken ∷ []
+
+-- those of a delete
+abbrev pub deleteAnswers : List ℕ
+deleteAnswers = success ∷ channelOpen ∷ badDevice ∷ badUnit ∷ badName ∷ badTable ∷ notFound ∷ fileLocked ∷ fileHeld ∷ badChain ∷ []
+
+-- those of a lock or an unlock
+abbrev pub lockAnswers : List ℕ
+lockAnswers = success ∷ channelOpen ∷ badDevice ∷ badUnit ∷ badName ∷ badTable ∷ notFound ∷ fileHeld ∷ []
+
+-- those of a format
+abbrev pub formatAnswers : List ℕ
+formatAnswers = success ∷ channelOpen ∷ badDevice ∷ badUnit ∷ badName ∷ fileHeld ∷ []
+
+-- those of a CIO call: 134, then by its command
+unfoldable pub answers : Block → List ℕ
+answers c =
+    check (leb 8 (c .channel)) (badChannel ∷ []) λ _.
+    check (eqb (c .command) 7) getAnswers λ _.
+    check (eqb (c .command) 3) (openAnswers (c .direction)) λ _.
+    check (eqb (c .command) 11) putAnswers λ _.
+    check (eqb (c .command) 12) closeAnswers λ _.
+    check (eqb (c .command) 13) statusAnswers λ _.
+    check (eqb (c .command) 32) renameAnswers λ _.
+    check (eqb (c .command) 33) deleteAnswers λ _.
+    check (eqb (c .command) 35) lockAnswers λ _.
+    check (eqb (c .command) 36) lockAnswers λ _.
+    check (eqb (c .command) 254) formatAnswers λ _.
+    check (ltb (c .command) 3) (badCommand ∷ []) λ _.
+    notServed ∷ []
+
+-- those of a recovery
+abbrev pub recoveryAnswers : List ℕ
+recoveryAnswers = success ∷ notFound ∷ badTable ∷ badName ∷ nameTaken ∷ lostChain ∷ []
+
+-- those of a sector call
+abbrev pub sectorAnswers : List ℕ
+sectorAnswers = success ∷ noDevice ∷ badRequest ∷ badLength ∷ []
+
+-- on image l, of 92,160 bytes, every call answers one of its numbers and no other
+pub record Answers (l : List ℕ) : Type 0 where
+  pub calls : (t : Table) (c : Block) (text b : List ℕ) → member (cioCall single l t c text b .effect .status) (answers c) ≡ true
+  pub recoveries : (s : ℕ) → member (recoverCall single l s .reply .status) recoveryAnswers ≡ true
+  pub sectors : (device unit command k : ℕ) (b : List ℕ) → member (sectorCall single l device unit command k b .reply .status) sectorAnswers ≡ true
+  pub thinGets : (c : Channel) (b : List ℕ) → member (thinGet single l c b .answer .status) getAnswers ≡ true
+  pub thinPuts : (c : Channel) (b : List ℕ) → member (thinPut single l c b .answer .status) putAnswers ≡ true
+
+-- on image l, of another length, 203 comes first: every call answers it, whatever else it was given
+pub record Unserved (l : List ℕ) : Type 0 where
+  pub calls : (t : Table) (c : Block) (text b : List ℕ) → cioCall single l t c text b .effect .status ≡ badImage
+  pub recoveries : (s : ℕ) → recoverCall single l s .reply .status ≡ badImage
+  pub sectors : (device unit command k : ℕ) (b : List ℕ) → sectorCall single l device unit command k b .reply .status ≡ badImage
+  pub thinGets : (c : Channel) (b : List ℕ) → thinGet single l c b .answer .status ≡ badImage
+  pub thinPuts : (c : Channel) (b : List ℕ) → thinPut single l c b .answer .status ≡ badImage
+  -- showing answers no
+  pub shown : (s k : ℕ) → shows single l s k ≡ false
+
+-- the partial transfers: get with 136 (file ended) or 164, put with 162; close frees its channel even with 164
+unfoldable pub partials : ℕ → List ℕ
+partials command =
+    check (eqb command 7) (endOfFile ∷ badChain ∷ []) λ _.
+    check (eqb command 11) (diskFull ∷ []) λ _.
+    check (eqb command 12) (badChain ∷ []) λ _.
+    []
+
+-- the answer to this command is a refusal, and no partial transfer
+pub record Refusal (command status : ℕ) : Type 0 where
+  pub failed : status ≢ success
+  pub whole : member status (partials command) ≡ false
+
+-- a call on image l left it as it was: the image that holds the disk after the call is l, byte for byte
+abbrev pub ImageKept : List ℕ → Disk → Type 0
+ImageKept l d = imageOf single (length l) d ≡ l
+
+-- no bytes reported; image, channels and buffer are what went in
+pub record Unchanged (l : List ℕ) (t : Table) (b : List ℕ) (o : Outcome) : Type 0 where
+  pub count : o .effect .count ≡ 0
+  pub image : ImageKept l (o .effect .disk)
+  pub table : o .effect .table ≡ t
+  pub buffer : o .buffer ≡ b
+
+-- a refused call reports no bytes and changes nothing
+pub record Refusals : Type 0 where
+  pub calls : (l : List ℕ) (t : Table) (c : Block) (text b : List ℕ) → let o = cioCall single l t c text b in Refusal (c .command) (o .effect .status) → Unchanged l t b o
+  pub recoveries : (l : List ℕ) (s : ℕ) → let r = recoverCall single l s in r .reply .status ≢ success → (r .reply .count ≡ 0) × ImageKept l (r .disk)
+  pub sectors : (l : List ℕ) (device unit command k : ℕ) (b : List ℕ) → let o = sectorCall single l device unit command k b in o .reply .status ≢ success → (o .reply .count ≡ 0) × ImageKept l (o .disk) × (o .buffer ≡ b)
+  -- a thin call on one lent record
+  pub thinGets : (l : List ℕ) (c : Channel) (b : List ℕ) → let o = thinGet single l c b in Refusal 7 (o .answer .status) → (o .answer .count ≡ 0) × (o .answer .state ≡ c .state) × (o .buffer ≡ b)
+  pub thinPuts : (l : List ℕ) (c : Channel) (b : List ℕ) → let o = thinPut single l c b in Refusal 11 (o .answer .status) → (o .answer .count ≡ 0) × (o .answer .state ≡ c .state) × ImageKept l (o .disk)
+
+-- of n bytes reported and the buffer after them: no more than were lent, and the rest of the buffer is left
+pub record Moved (n : ℕ) (after b : List ℕ) : Type 0 where
+  pub few : n ≤ length b
+  pub rest : drop n after ≡ drop n b
+
+-- only channel i differs
+abbrev pub OnlyChannel : Table → ℕ → Table → Type 0
+OnlyChannel t i u = (st : State) × (u ≡ withState t i st)
+
+-- the file's end: a put on a channel in this state changes no sector but the volume table, the slot's sector of the directory, the file's last sector, and those that it gives out
+abbrev pub OnlyEnd : State → Disk → Disk → List ℕ → Type 0
+OnlyEnd st d e given = (s p : ℕ) → st ≡ Writing s p → (k : ℕ) → k ≢ 360 → k ≢ 361 + s / 8 → k ≢ p → member k given ≡ false → e k ≡ d k
+
+-- what a partial transfer leaves, as every get, put and close does
+pub record Transfers : Type 0 where
+  -- a get leaves the image, the rest of the buffer and the other channels
+  pub gets : (l : List ℕ) (t : Table) (c : Block) (text b : List ℕ) → c .command ≡ 7
+      → let o = cioCall single l t c text b in ImageKept l (o .effect .disk) × Moved (o .effect .count) (o .buffer) b × OnlyChannel t (c .channel) (o .effect .table)
+  pub thinGets : (l : List ℕ) (c : Channel) (b : List ℕ) → let o = thinGet single l c b in Moved (o .answer .count) (o .buffer) b
+  -- a put leaves the buffer, the other channels and all of the disk but the file's end
+  pub puts : (l : List ℕ) (t : Table) (c : Block) (text b : List ℕ) → c .command ≡ 11
+      → let o = cioCall single l t c text b in (o .effect .count ≤ length b) × (o .buffer ≡ b) × OnlyChannel t (c .channel) (o .effect .table) × OnlyEnd (stateOf t (c .channel)) (view single l) (o .effect .disk) (o .effect .given)
+  pub thinPuts : (l : List ℕ) (c : Channel) (b : List ℕ) → let o = thinPut single l c b in (o .answer .count ≤ length b) × OnlyEnd (c .state) (view single l) (o .disk) (o .given)
+  -- a close with 164 frees its channel, and changes nothing else
+  pub closes : (l : List ℕ) (t : Table) (c : Block) (text b : List ℕ) → c .command ≡ 12 → let o = cioCall single l t c text b in o .effect .status ≡ badChain → Unchanged l (withState t (c .channel) Closed) b o
+
+-- demand 1: any image of any length, any channels, command block, name, buffer, slot and channel record
+pub record Demand1 : Type 0 where
+  pub answers : (l : List ℕ) → length l ≡ 92160 → Answers l
+  pub unserved : (l : List ℕ) → length l ≢ 92160 → Unserved l
+  pub refusals : Refusals
+  pub transfers : Transfers

@@ -1,0 +1,54 @@
+-- What showing shows: the bytes that a get with sectors left delivers from that sector, as they lie in the image.
+use mathlib.Core.Bool.{true, false}
+use mathlib.Core.List.{List, []}
+use mathlib.Core.Path.{_≡_}
+use Prim.Native.Nat.{ℕ, suc, _+_, _≤_, _<_}
+use lib.ListN.{length, take}
+use Rattle.layout.specs.declared.State.{State}
+use Rattle.layout.specs.declared.State.the-variants.{Reading}
+use Rattle.layout.specs.declared.Channel.{Channel}
+use Rattle.layout.specs.Basics.{valuesFrom}
+use Rattle.layout.specs.Image.{Disk, single, view}
+use Rattle.layout.specs.File.{used}
+use Rattle.layout.specs.Status.{success, badChain}
+use Rattle.rules.specs.Get.{GetOutcome, nextToEnter, hasByte, ends, readable}
+use Rattle.rules.specs.Showing.{shows, shownStart, shownLength, shownPart}
+use Rattle.rules.specs.Thin.{thinGet}
+
+-- a channel that reads slot s is at the edge of sector k: it passes a get's first test, its sector is used up and not the file's last, and the next to enter is k
+pub record AtEdge (d : Disk) (s j o k : ℕ) : Type 0 where
+  pub tested : readable single d s j o ≡ true
+  pub usedUp : hasByte single d j o ≡ false
+  pub goesOn : ends single d j ≡ false
+  pub enters : nextToEnter single d s j ≡ k
+
+-- a get with a buffer b that these bytes fill: 1, and the first of them; the channel has entered sector k
+pub record Gives (part : List ℕ) (s k n : ℕ) (b : List ℕ) (z : GetOutcome) : Type 0 where
+  pub status : z .answer .status ≡ success
+  pub count : z .answer .count ≡ length b
+  pub state : z .answer .state ≡ Reading s k (length b) n
+  pub buffer : z .buffer ≡ take (length b) part
+
+-- a get that cannot enter the sector: 164, no byte, and the channel stays
+pub record Stops (st : State) (b : List ℕ) (z : GetOutcome) : Type 0 where
+  pub status : z .answer .status ≡ badChain
+  pub count : z .answer .count ≡ 0
+  pub state : z .answer .state ≡ st
+  pub buffer : z .buffer ≡ b
+
+-- on any image, sound or not
+pub record Shown : Type 0 where
+  -- the part lies in the image, and where the answer is yes it is the sector's bytes in use
+  pub within : (l : List ℕ) (s k : ℕ) → shownStart single l s k + shownLength single l s k ≤ length l
+  pub part : (l : List ℕ) (s k : ℕ) → shows single l s k ≡ true → let r = view single l k in shownPart single l s k ≡ valuesFrom r (used single r) 0
+  -- otherwise it is empty, at the image's start
+  pub none : (l : List ℕ) (s k : ℕ) → shows single l s k ≡ false → (shownStart single l s k ≡ 0) × (shownPart single l s k ≡ [])
+  -- yes: a get from the edge of the sector with sectors left delivers the part
+  pub delivers : (l : List ℕ) (s j o k n : ℕ) → AtEdge (view single l) s j o k → shows single l s k ≡ true
+      → (c : Channel) → c .state ≡ Reading s j o (suc n) → (b : List ℕ) → 0 < length b → length b ≤ shownLength single l s k → Gives (shownPart single l s k) s k n b (thinGet single l c b)
+  -- and it goes on as from the sector's first byte, whatever its buffer
+  pub entered : (l : List ℕ) (s j o k n : ℕ) → AtEdge (view single l) s j o k → shows single l s k ≡ true
+      → (c e : Channel) → c .state ≡ Reading s j o (suc n) → e .state ≡ Reading s k 0 n → (b : List ℕ) → 0 < length b → thinGet single l c b ≡ thinGet single l e b
+  -- no, on an image of 92,160 bytes: it answers 164
+  pub stops : (l : List ℕ) → length l ≡ 92160 → (s j o k n : ℕ) → AtEdge (view single l) s j o k → shows single l s k ≡ false
+      → (c : Channel) → c .state ≡ Reading s j o (suc n) → (b : List ℕ) → 0 < length b → Stops (Reading s j o (suc n)) b (thinGet single l c b)
