@@ -42,7 +42,7 @@ unfolding channelsFrom
 channels-length ws zero c = refl
 channels-length ws (suc n) c = ap suc (channels-length ws n (c + 1))
 
-table-eight : (ws : List ℕ) → length (tableOf ws .channels) ≡ 8
+pub table-eight : (ws : List ℕ) → length (tableOf ws .channels) ≡ 8
 unfolding tableOf
 table-eight ws = channels-length ws 8 0
 

@@ -1,0 +1,173 @@
+-- A call on words is the call of the rules on the table that they say, and so on along a list: the exported functions run alike to the rules.
+use mathlib.Core.Bool.{Bool, true, _&&_}
+use mathlib.Core.List.{List, [], _∷_}
+use mathlib.Core.Logic.{_⊎_, inl, inr}
+use mathlib.Core.Path.{_≡_, refl, ap, _∙_}
+use Prim.Native.Nat.{ℕ, _+_, _*_, _/_, _%_, _<_}
+use native.Mathlib.Decide.{ℕ-discrete}
+use native.Mathlib.Omega.{arith}
+use lib.Dec.{ltb}
+use lib.ListN.{length}
+use borrow.Author.Tests.{ltb-true}
+use Rattle.layout.specs.declared.Table.{Table}
+use Rattle.layout.specs.Basics.{allBelow, member}
+use Rattle.layout.specs.Image.{Disk, single, view, imageOf}
+use Rattle.layout.specs.Channels.{freshTable}
+use Rattle.layout.proofs.Channels.{with-length}
+use Rattle.layout.proofs.Check.{by-check}
+use Rattle.layout.proofs.Logic.{and-left, and-right}
+use Rattle.layout.proofs.Members.{no-member, member-cons}
+use Rattle.rules.specs.declared.Block.{Block}
+use Rattle.rules.specs.Commands.{putAt}
+use Rattle.rules.specs.Cio.{Outcome, getAt, cio, cioCall}
+use Rattle.rules.specs.Demand1.{openAnswers, answers, recoveryAnswers}
+use Rattle.rules.specs.Lists.{Call, cioOf, recoveryOf, run, ImageTable, systemOf, outcomeOn, afterOn, images}
+use Rattle.words.specs.Result.{packed}
+use Rattle.words.specs.Words.{inForce, stateIn, recordAt, kindInForce, isTable, channelsFrom, tableOf}
+use Rattle.words.proofs.Tables.{table-length, table-eight, words-say, words-table}
+use Rattle.capi.proofs.Laws.{on-table}
+use Rattle.theory.proofs.Cases.{by-cases}
+use Rattle.theory.proofs.Demand1.{demand1}
+use Rattle.theory.proofs.Alike.{Alike, demand2-alike, demand3-alike}
+use Rattle.theory.proofs.OnImages.{image-demand2, image-demand3}
+use Rattle.exported.specs.Words.{ImageWords, said, callWords, seen, words, WordsRun, FreshWords, WordsDemand2, WordsDemand3}
+
+-- a CIO call leaves as many channels as there were
+cio-many : (d : Disk) (t : Table) (c : Block) (text b : List ℕ) → length (cio single d t c text b .effect .table .channels) ≡ length (t .channels)
+unfolding getAt putAt
+cio-many d t c text b = by-cases single d t c text b (λ o. length (o .effect .table .channels) ≡ length (t .channels)) (record {
+  refuses = λ n _. refl;
+  gets = λ _ _. with-length t (c .channel) _;
+  puts = λ _ _. with-length t (c .channel) _;
+  reads = λ _ _ _ _ s _ _. with-length t (c .channel) _;
+  replaces = λ _ _ _ _ s _ _. with-length t (c .channel) _;
+  makes = λ _ _ _ _ u w _ _ s _ _. with-length t (c .channel) _;
+  shuts = λ _ _ _. with-length t (c .channel) _;
+  finishes = λ _ _ s p _ _. with-length t (c .channel) _;
+  breaks = λ _ _ s p _ _. with-length t (c .channel) _;
+  asks = λ _. refl;
+  renames = λ _ s _ u w _ _. refl;
+  deletes = λ _ s _ _. refl;
+  locks = λ _ s _ _. refl;
+  unlocks = λ _ s _ _. refl;
+  formats = λ _ _. refl;
+})
+
+call-many : (l : List ℕ) (t : Table) (c : Block) (text b : List ℕ) → length (cioCall single l t c text b .effect .table .channels) ≡ length (t .channels)
+unfolding cioCall
+call-many l t c text b = by-check (λ (o : Outcome). length (o .effect .table .channels) ≡ length (t .channels)) _ _ _ (λ _. refl) (λ _. cio-many (view single l) t c text b)
+
+-- every status is a byte, so that a result can be taken apart again: it is one of a list of bytes
+bytes : List ℕ → Bool
+bytes [] = true
+bytes (x ∷ l) = ltb x 256 && bytes l
+
+member-byte : (l : List ℕ) → bytes l ≡ true → (n : ℕ) → member n l ≡ true → n < 256
+unfolding bytes
+member-byte [] e n m = no-member n m
+member-byte (x ∷ l) e n m = go (member-cons n x l m) (member-byte l (and-right (ltb x 256) (bytes l) e) n)
+  where
+    go : (n ≡ x) ⊎ (member n l ≡ true) → (member n l ≡ true → n < 256) → n < 256
+    go (inl q) f = rw q (ltb-true x 256 (and-left (ltb x 256) (bytes l) e))
+    go (inr q) f = f q
+
+answers-bytes : (c : Block) → bytes (answers c) ≡ true
+unfolding answers openAnswers bytes
+answers-bytes c = by-check P _ _ _ (λ _. refl) λ _. by-check P _ _ _ (λ _. refl) λ _.
+    by-check P _ _ _ (λ _. by-check P _ _ _ (λ _. refl) λ _. by-check P _ _ _ (λ _. refl) λ _. refl) λ _.
+    by-check P _ _ _ (λ _. refl) λ _. by-check P _ _ _ (λ _. refl) λ _. by-check P _ _ _ (λ _. refl) λ _.
+    by-check P _ _ _ (λ _. refl) λ _. by-check P _ _ _ (λ _. refl) λ _. by-check P _ _ _ (λ _. refl) λ _.
+    by-check P _ _ _ (λ _. refl) λ _. by-check P _ _ _ (λ _. refl) λ _. by-check P _ _ _ (λ _. refl) λ _. refl
+  where
+    P : List ℕ → Type 0
+    P l = bytes l ≡ true
+
+status-byte : (c : Call) (x : ImageTable) → outcomeOn c x .effect .status < 256
+unfolding outcomeOn bytes
+status-byte c x = go c (ℕ-discrete (length (x .image)) 92160)
+  where
+    go : (c : Call) → Dec (length (x .image) ≡ 92160) → outcomeOn c x .effect .status < 256
+    go (cioOf c text b) (yes w) = member-byte (answers c) (answers-bytes c) _ (demand1 .answers (x .image) w .calls (x .table) c text b)
+    go (recoveryOf s) (yes w) = member-byte recoveryAnswers refl _ (demand1 .answers (x .image) w .recoveries s)
+    go (cioOf c text b) (no n) = rw (demand1 .unserved (x .image) n .calls (x .table) c text b) (omega arith)
+    go (recoveryOf s) (no n) = rw (demand1 .unserved (x .image) n .recoveries s) (omega arith)
+
+-- one call
+module _ (x : ImageWords) (h : isTable (x .words) ≡ true) where
+  call-table : (c : Call) → isTable (callWords c x .after .words) ≡ true
+  unfolding callWords
+  call-table (cioOf c text b) = rw (on-table (x .image) (x .words) c text b h) (words-table (x .words) _ h)
+  call-table (recoveryOf s) = h
+
+  call-said : (c : Call) → said (callWords c x .after) ≡ afterOn (said x) (outcomeOn c (said x) .effect)
+  unfolding callWords outcomeOn
+  call-said (cioOf c text b) =
+      let t = tableOf (x .words) in
+      let e = cioCall single (x .image) t c text b .effect in
+      rw (on-table (x .image) (x .words) c text b h)
+      (ap (λ u. record { image = imageOf single (length (x .image)) (e .disk); table = u }) (words-say (x .words) (e .table) (table-length (x .words) h) (call-many (x .image) t c text b ∙ table-eight (x .words))))
+  call-said (recoveryOf s) = refl
+
+  call-result : (c : Call) → let e = outcomeOn c (said x) .effect in callWords c x .result ≡ packed (e .status) (e .count)
+  unfolding callWords outcomeOn
+  call-result (cioOf c text b) = rw (on-table (x .image) (x .words) c text b h)
+  call-result (recoveryOf s) = refl
+
+  call-buffer : (c : Call) → callWords c x .buffer ≡ outcomeOn c (said x) .buffer
+  unfolding callWords outcomeOn
+  call-buffer (cioOf c text b) = rw (on-table (x .image) (x .words) c text b h)
+  call-buffer (recoveryOf s) = refl
+
+  -- what the caller sees of a call is its outcome on the image
+  call-seen : (c : Call) → seen c x ≡ images .outcome c (said x)
+  call-seen c =
+      let e = outcomeOn c (said x) .effect in
+      let y = call-said c in
+      rw (call-result c, call-buffer c, ap (λ (z : ImageTable). z .image) y, ap (λ (z : ImageTable). z .table) y, status-in (e .status) (e .count) (status-byte c (said x)), count-in (e .status) (e .count) (status-byte c (said x)))
+    where
+      status-in : (status count : ℕ) → status < 256 → (status + 256 * count) % 256 ≡ status
+      status-in status count h = omega arith
+
+      count-in : (status count : ℕ) → status < 256 → (status + 256 * count) / 256 ≡ count
+      count-in status count h = omega arith
+
+-- a list of calls
+run-table : (cs : List Call) (x : ImageWords) → isTable (x .words) ≡ true → isTable (run words cs x .words) ≡ true
+unfolding run
+run-table [] x h = h
+run-table (c ∷ cs) x h = run-table cs (callWords c x .after) (call-table x h c)
+
+run-said : (cs : List Call) (x : ImageWords) → isTable (x .words) ≡ true → said (run words cs x) ≡ run images cs (said x)
+unfolding run
+run-said [] x h = refl
+run-said (c ∷ cs) x h = run-said cs (callWords c x .after) (call-table x h c) ∙ ap (run images cs) (call-said x h c)
+
+pub words-run : WordsRun
+words-run x h cs =
+    let y = run words cs x in
+    let t = run-table cs x h in
+    let e = run-said cs x h in
+    record {
+      table = t;
+      same = e;
+      result = λ c. call-result y t c ∙ ap (λ z. packed (outcomeOn c z .effect .status) (outcomeOn c z .effect .count)) e;
+      buffer = λ c. call-buffer y t c ∙ ap (λ z. outcomeOn c z .buffer) e;
+    }
+
+-- so the exported functions run alike to the rules on images
+words-alike : (x : ImageWords) → isTable (x .words) ≡ true → Alike words images x (said x)
+words-alike x h = record {
+  systems = λ cs. ap systemOf (run-said cs x h);
+  outcomes = λ cs c. call-seen (run words cs x) (run-table cs x h) c ∙ ap (images .outcome c) (run-said cs x h);
+}
+
+pub words-demand2 : WordsDemand2
+words-demand2 x h a = demand2-alike words images single x (said x) (words-alike x h) (image-demand2 (said x) a)
+
+pub words-demand3 : WordsDemand3
+words-demand3 x h a = demand3-alike words images single x (said x) (words-alike x h) (image-demand3 (said x) a)
+
+-- forty zeros
+pub fresh-words : FreshWords
+unfolding isTable allBelow kindInForce inForce tableOf channelsFrom recordAt stateIn freshTable
+fresh-words = (refl, refl)
