@@ -11,18 +11,20 @@
  *
  *   image    the disk: 92,160 bytes, sectors 1 to 720 of 128 bytes in order,
  *            with no header. Any other length is refused with 203 (dos_show
-            answers a no).
+ *            answers a no).
  *   table    the eight channels: 40 words, see "The channel table".
  *   channel  one channel by itself (thin calls): its five words.
  *   name     a file name with its device and its ending byte, see "Names".
  *   buffer   the bytes to write, or the place for those read.
  *
  * Each is a pointer and a length in elements. What is lent must be there for
- * the whole length; parts lent to one call must not overlap; words must be
- * aligned as uint16_t is. With length 0 the pointer is not followed and may be
- * NULL. No call asks for more than that: every content of image, table, name
- * and buffer is legal and has a defined answer. A refused call changes nothing,
- * except where its comment says so.
+ * the whole length, and initialised; parts lent to one call must not overlap;
+ * words must be aligned as uint16_t is; nobody else may write to what is lent,
+ * or read what the call may change, until the call returns. With length 0 the
+ * pointer is not followed and may be NULL. A call needs 4 KiB of stack. No call
+ * asks for more than that: every content of image, table, name and buffer is
+ * legal and has a defined answer. A refused call changes nothing, except where
+ * its comment says so.
  */
 #ifndef HILUGSABAN_H
 #define HILUGSABAN_H
@@ -162,8 +164,10 @@ enum {
  * use them. Only a get changes the buffer. Three refusals change something: a
  * get with 136 or 164 has delivered count bytes and left the rest of the
  * buffer, and its channel stands at the end of the last sector entered, also
- * where the count is 0; a put with 162 has written the count bytes that fitted;
- * a close with 164 has closed its channel.
+ * where the count is 0 (a get whose channel does not fit the disk answers 164
+ * before it enters anything, and leaves the channel as it was); a put with 162
+ * has written the count bytes that fitted; a close with 164 has closed its
+ * channel.
  */
 uint64_t dos_cio(uint8_t *image, size_t image_length,
                  uint16_t *table, size_t table_length,
