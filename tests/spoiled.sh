@@ -58,8 +58,10 @@ copy_for() {
     specs/*) copy_crates "$1" "$2" src specs ;;
     *)
         copy_crates "$1" "$2" src specs proofs
-        rm "$1/crates/rules/specs/Examples.antt"
-        sed -i '/^pub mod Examples$/d' "$1/crates/rules/specs/Lib.antt"
+        if [ -d "$1/crates/rules" ]; then
+            rm "$1/crates/rules/specs/Examples.antt"
+            sed -i '/^pub mod Examples$/d' "$1/crates/rules/specs/Lib.antt"
+        fi
         ;;
     esac
 }

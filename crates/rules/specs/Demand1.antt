@@ -48,7 +48,7 @@ putAnswers = success ∷ channelClosed ∷ readOnly ∷ badTable ∷ badChain �
 abbrev pub closeAnswers : List ℕ
 closeAnswers = success ∷ badChain ∷ []
 
--- a status
+-- those of a status
 abbrev pub statusAnswers : List ℕ
 statusAnswers = success ∷ channelOpen ∷ badDevice ∷ badUnit ∷ badName ∷ notFound ∷ fileLocked ∷ []
 
