@@ -9,9 +9,7 @@
  * The library allocates nothing, keeps nothing between two calls and does no
  * input or output. All that a call reads or changes is lent to it:
  *
- *   image    the disk: 92,160 bytes, sectors 1 to 720 of 128 bytes in order,
- *            with no header. Any other length is refused with 203 (dos_show
- *            answers a no).
+ *   image    the disk: a raw image or an ATR file, see "Images".
  *   table    the eight channels: 40 words, see "The channel table".
  *   channel  one channel by itself (thin calls): its five words.
  *   name     a file name with its device and its ending byte, see "Names".
@@ -36,16 +34,41 @@
 extern "C" {
 #endif
 
+/*
+ * Images. The length of an image tells what it is: sectors 1 to 720 in order,
+ * in an ATR file behind a header of 16 bytes.
+ *
+ *   image                     bytes    header  sectors 1 to 3  4 to 720  data
+ *   raw                       92,160   -       128 bytes       128       125
+ *   ATR file, single density  92,176   16      128             128       125
+ *   ATR file, double density  183,952  16      128             256       253
+ *
+ * data is the number of a file's bytes that one sector holds. Any other length
+ * is refused with 203, an ATR file whose header does not agree with its length
+ * with 205 (dos_show answers a no to both). A header is, low byte first:
+ *
+ *   bytes 0, 1     $96, $02
+ *   bytes 2, 3, 6  the bytes behind the header, in units of 16: 5,760 or 11,496
+ *   bytes 4, 5     the size of sector 4: 128 or 256
+ *   bytes 7 to 15  not looked at; dos_header writes zeros
+ */
+enum {
+    DOS_IMAGE_BYTES = 92160,       /* a raw image */
+    DOS_ATR_SINGLE_BYTES = 92176,  /* an ATR file of single density */
+    DOS_ATR_DOUBLE_BYTES = 183952  /* an ATR file of double density */
+};
+
 /* Sizes. */
 enum {
-    DOS_IMAGE_BYTES = 92160,  /* a disk image */
-    DOS_SECTOR_BYTES = 128,   /* a sector, and the buffer of dos_sector */
-    DOS_SECTORS = 720,        /* sectors count from 1 */
-    DOS_SLOTS = 64,           /* directory slots count from 0 */
-    DOS_CHANNELS = 8,         /* channels count from 0 */
-    DOS_CHANNEL_WORDS = 5,    /* words of one channel */
-    DOS_TABLE_WORDS = 40,     /* words of the channel table */
-    DOS_NAME_BYTES = 11       /* a name in the directory, blank padded */
+    DOS_HEADER_BYTES = 16,          /* the header of an ATR file */
+    DOS_SECTOR_BYTES = 128,         /* a sector, and the buffer of dos_sector */
+    DOS_DOUBLE_SECTOR_BYTES = 256,  /* the same for sectors 4 to 720 of double density */
+    DOS_SECTORS = 720,              /* sectors count from 1 */
+    DOS_SLOTS = 64,                 /* directory slots count from 0 */
+    DOS_CHANNELS = 8,               /* channels count from 0 */
+    DOS_CHANNEL_WORDS = 5,          /* words of one channel */
+    DOS_TABLE_WORDS = 40,           /* words of the channel table */
+    DOS_NAME_BYTES = 11             /* a name in the directory, blank padded */
 };
 
 /*
@@ -91,7 +114,7 @@ enum {
     DOS_DELETE = 33,   /* name; closed channel */
     DOS_LOCK = 35,     /* name; closed channel */
     DOS_UNLOCK = 36,   /* name; closed channel */
-    DOS_FORMAT = 254   /* name `D:` alone; closed channel */
+    DOS_FORMAT = 254   /* name `D:` alone; closed channel; an ATR file's header stays */
 };
 
 /* Directions of DOS_OPEN. Other commands do not look at the direction. */
@@ -111,9 +134,9 @@ enum {
 
 /*
  * Status numbers. The comment says when a call gives each. Where several apply,
- * dos_cio answers the first in this order: 255, 203, 134, 132 or 168 (command),
- * 129, 161, 133, 131 or 135, 168 (direction), 130, 160, 165, 163, 170, 167, 200,
- * 164, 201, 169, 162.
+ * dos_cio answers the first in this order: 255, 203, 205, 134, 132 or 168
+ * (command), 129, 161, 133, 131 or 135, 168 (direction), 130, 160, 165, 163, 170,
+ * 167, 200, 164, 201, 169, 162.
  */
 enum {
     DOS_SUCCESS = 1,           /* done */
@@ -143,8 +166,10 @@ enum {
                                   format: a channel is open */
     DOS_NAME_TAKEN = 201,      /* another standing file has the name (rename, recovery) */
     DOS_LOST_CHAIN = 202,      /* recovery: the deleted file's sectors are not all its own any more */
-    DOS_BAD_IMAGE = 203,       /* the image is not 92,160 bytes long */
-    DOS_BAD_LENGTH = 204,      /* sector call: the buffer is not 128 bytes long */
+    DOS_BAD_IMAGE = 203,       /* the image has none of the three lengths;
+                                  dos_header: it is no ATR file's */
+    DOS_BAD_LENGTH = 204,      /* sector call: the buffer is not as long as the sector */
+    DOS_BAD_HEADER = 205,      /* the header of an ATR file does not agree with its length */
     DOS_BAD_ARGUMENT = 255     /* a table, channel or eleven of another length, or a channel
                                   of another kind; this test comes first */
 };
@@ -178,32 +203,36 @@ uint64_t dos_cio(uint8_t *image, size_t image_length,
 /*
  * Takes the deleted file in a directory slot back. The answer is status +
  * 256 * count, count being the number of sectors taken back. Refusals in order:
- * 203, 170, 163, 165, 201, 202. Recovery knows no channels.
+ * 203, 205, 170, 163, 165, 201, 202. Recovery knows no channels.
  */
 uint64_t dos_recover(uint8_t *image, size_t image_length, uint8_t slot);
 
 /*
- * Reads a sector into the buffer or writes the buffer to it. The answer is
- * status + 256 * count, count being 128 on success. Refusals in order: 203,
- * 138, 139, 204. A write is not held to any rule of the file system.
+ * Reads a sector into the buffer or writes the buffer to it. The buffer is as
+ * long as the sector: 128 bytes, or 256 for sectors 4 to 720 of double density.
+ * The answer is status + 256 * count, count being that length on success.
+ * Refusals in order: 203, 205, 138, 139, 204. A write is not held to any rule of
+ * the file system.
  */
 uint64_t dos_sector(uint8_t *image, size_t image_length,
                     uint8_t device, uint8_t unit, uint8_t command, uint16_t sector,
                     uint8_t *buffer, size_t buffer_length);
 
 /*
- * Where the data of one file sector stand in the image: a yes when the image
- * has its length and a get for that slot could enter the sector, else a no.
- * Take the answer apart with dos_shown, dos_shown_offset and dos_shown_length:
- * 1 for a yes and 0 for a no in the low eight bits, above them
- * offset * 1024 + length. A no has both 0.
+ * Where the data of one file sector stand in the image: a yes when the image is
+ * served (neither 203 nor 205) and a get for that slot could enter the sector,
+ * else a no. Take the answer apart with dos_shown, dos_shown_offset and
+ * dos_shown_length: 1 for a yes and 0 for a no in the low eight bits, above them
+ * offset * 1024 + length. The offset counts from the image's first byte, an ATR
+ * file's header included. A no has both 0.
  */
 uint64_t dos_show(const uint8_t *image, size_t image_length, uint8_t slot, uint16_t sector);
 
 /*
  * Thin calls: get and put on one channel that is not in a table. channel has
  * five words. The answer is as for DOS_GET and DOS_PUT of dos_cio; 255 where
- * the length is not 5 or the kind is none, then 203, 133, 131 or 135, and so on.
+ * the length is not 5 or the kind is none, then 203, 205, 133, 131 or 135, and so
+ * on.
  */
 uint64_t dos_thin_get(const uint8_t *image, size_t image_length,
                       uint16_t *channel, size_t channel_length,
@@ -218,6 +247,13 @@ uint64_t dos_thin_put(uint8_t *image, size_t image_length,
  */
 uint64_t dos_name(const uint8_t *name, size_t name_length,
                   uint8_t *eleven, size_t eleven_length);
+
+/*
+ * Writes the header of an ATR file into the first 16 bytes of an image of either
+ * ATR length, whatever stands there. The answer is 1; or 203 for any other
+ * length, a raw image's too.
+ */
+uint64_t dos_header(uint8_t *image, size_t image_length);
 
 /* The status of an answer. */
 static inline uint8_t dos_answer_status(uint64_t answer)

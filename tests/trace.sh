@@ -1,9 +1,9 @@
 #!/usr/bin/env bash
 # docs/TRACE.md names every definition and every field of the two crates of rules, and nothing that is not there; and what it
-# quotes stands in document 01, which is compared where the paper lies beside the repository.
+# quotes stands in document 01 or 02, which are compared where the papers lie beside the repository.
 set -uo pipefail
 cd "$(dirname "$0")/.."
-paper=../shared/papers/01-scope.md
+papers=../shared/papers
 defined=$(mktemp)
 named=$(mktemp)
 trap 'rm -f "$defined" "$named"' EXIT
@@ -27,13 +27,15 @@ else
     status=1
 fi
 
-if [ ! -f "$paper" ]; then
-    echo "document 01 is not at hand ($paper): what docs/TRACE.md quotes was NOT compared with it"
-    exit "$status"
-fi
-# The rule of docs/TRACE.md's head: what stands between two `..` of a first column has to stand in the paper, word for word, and
-# in the order of the row. Marks and the bars of tables are left out on both sides.
-awk '
+# The rule of docs/TRACE.md's head: what stands between two `..` of a first column has to stand in the paper that heads it, word
+# for word, and in the order of the row. Marks and the bars of tables are left out on both sides.
+quotations() {
+    local document=$1 paper=$papers/$2
+    if [ ! -f "$paper" ]; then
+        echo "document $document is not at hand ($paper): what docs/TRACE.md quotes of it was NOT compared with it"
+        return 0
+    fi
+    awk -v document="$document" '
     function plain(t) {
         gsub(/\\?\|/, " ", t)
         gsub(/[*`]/, "", t)
@@ -56,7 +58,7 @@ awk '
         if ($0 !~ /^\|[-|]+$/) paper = paper " " plain($0)
         next
     }
-    /^\| Document 01 \|/ { quotes = 1; next }
+    index($0, "| Document " document " |") == 1 { quotes = 1; next }
     !/^\|/ { quotes = 0 }
     !quotes || /^\|[-|]+$/ || /^\| \(/ { next }
     {
@@ -71,14 +73,17 @@ awk '
             compared++
             at = behind(words, at)
             if (at) continue
-            print "docs/TRACE.md:" FNR ": not in document 01: " words
+            print "docs/TRACE.md:" FNR ": not in document " document ": " words
             bad = 1
             break
         }
     }
     END {
-        if (!compared) print "docs/TRACE.md quotes nothing of document 01"
-        else if (!bad) print compared " quotations compared with document 01"
+        if (!compared) print "docs/TRACE.md quotes nothing of document " document
+        else if (!bad) print compared " quotations compared with document " document
         exit bad || !compared
-    }' "$paper" docs/TRACE.md || status=1
+    }' "$paper" docs/TRACE.md
+}
+quotations 01 01-scope.md || status=1
+quotations 02 02-change-requests.md || status=1
 exit "$status"

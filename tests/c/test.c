@@ -1,5 +1,5 @@
 /*
- * The bench examples and every call of the library, through the header.
+ * The bench examples and every call of the library, through the header, on each kind of image.
  * Compiles as C99 and as C++. Prints what differs; exit status 0 when nothing does.
  */
 #include "hilugsaban.h"
@@ -7,17 +7,34 @@
 #include <stdio.h>
 #include <string.h>
 
-static uint8_t image[DOS_IMAGE_BYTES];
-static uint8_t before[DOS_IMAGE_BYTES];
+/* What an image can be. */
+struct kind {
+    const char *name;
+    size_t length;  /* of the image */
+    size_t header;  /* bytes of it in front of the sectors */
+    size_t size;    /* of sectors 4 to 720 */
+    size_t data;    /* a file's bytes in one sector */
+};
+static const struct kind kinds[] = {
+    {"raw", DOS_IMAGE_BYTES, 0, DOS_SECTOR_BYTES, 125},
+    {"ATR, single density", DOS_ATR_SINGLE_BYTES, DOS_HEADER_BYTES, DOS_SECTOR_BYTES, 125},
+    {"ATR, double density", DOS_ATR_DOUBLE_BYTES, DOS_HEADER_BYTES, DOS_DOUBLE_SECTOR_BYTES, 253},
+};
+
+/* The kind that is tested. */
+static const struct kind *kind = &kinds[0];
+
+static uint8_t image[DOS_ATR_DOUBLE_BYTES + 1];
+static uint8_t before[DOS_ATR_DOUBLE_BYTES + 1];
 static uint16_t table[DOS_TABLE_WORDS + 1];
-static uint8_t buffer[DOS_IMAGE_BYTES];
+static uint8_t buffer[DOS_ATR_DOUBLE_BYTES];
 static int failures;
 
 /* Reports an answer that is not the expected status and count. */
 static void expect(int line, uint64_t answer, unsigned status, size_t count)
 {
     if (dos_answer_status(answer) != status || dos_answer_count(answer) != count) {
-        printf("line %d: status %u count %lu, expected %u and %lu\n", line, (unsigned)dos_answer_status(answer),
+        printf("line %d, %s: status %u count %lu, expected %u and %lu\n", line, kind->name, (unsigned)dos_answer_status(answer),
                (unsigned long)dos_answer_count(answer), status, (unsigned long)count);
         failures++;
     }
@@ -26,7 +43,7 @@ static void expect(int line, uint64_t answer, unsigned status, size_t count)
 static void expect_true(int line, int holds)
 {
     if (!holds) {
-        printf("line %d: does not hold\n", line);
+        printf("line %d, %s: does not hold\n", line, kind->name);
         failures++;
     }
 }
@@ -37,14 +54,14 @@ static void expect_true(int line, int holds)
 /* A call with a name, which is lent with its ending 0. */
 static uint64_t by_name(uint8_t channel, uint8_t command, uint8_t direction, const char *name)
 {
-    return dos_cio(image, DOS_IMAGE_BYTES, table, DOS_TABLE_WORDS, channel, command, direction,
+    return dos_cio(image, kind->length, table, DOS_TABLE_WORDS, channel, command, direction,
                    (const uint8_t *)name, strlen(name) + 1, NULL, 0);
 }
 
 /* A call with a buffer. */
 static uint64_t by_buffer(uint8_t channel, uint8_t command, uint8_t *bytes, size_t length)
 {
-    return dos_cio(image, DOS_IMAGE_BYTES, table, DOS_TABLE_WORDS, channel, command, 0, NULL, 0, bytes, length);
+    return dos_cio(image, kind->length, table, DOS_TABLE_WORDS, channel, command, 0, NULL, 0, bytes, length);
 }
 
 /* A fresh disk with all channels closed. */
@@ -52,6 +69,8 @@ static void fresh(void)
 {
     memset(table, 0, sizeof table);
     memset(image, 0xA5, sizeof image);
+    if (kind->header)
+        EXPECT(dos_header(image, kind->length), DOS_SUCCESS, 0);
     EXPECT(by_name(0, DOS_FORMAT, 0, "D:"), DOS_SUCCESS, 0);
 }
 
@@ -65,12 +84,22 @@ static void make(const char *name, size_t length)
 
 static uint64_t recover(uint8_t slot)
 {
-    return dos_recover(image, DOS_IMAGE_BYTES, slot);
+    return dos_recover(image, kind->length, slot);
 }
 
-static const uint8_t *sector(unsigned number)
+static uint8_t *sector(unsigned number)
 {
-    return image + (number - 1) * DOS_SECTOR_BYTES;
+    uint8_t *first = image + kind->header;
+
+    return number < 4 ? first + (number - 1) * DOS_SECTOR_BYTES : first + 3 * DOS_SECTOR_BYTES + (number - 4) * kind->size;
+}
+
+/* The last three bytes of a file sector are these. */
+static int ends(unsigned number, unsigned link, unsigned next, size_t count)
+{
+    const uint8_t *tail = sector(number) + kind->data;
+
+    return tail[0] == link && tail[1] == next && tail[2] == count;
 }
 
 static void remember(void)
@@ -91,10 +120,10 @@ static void files(void)
     fresh();
     HOLDS(sector(360)[10] == 0x0F && sector(360)[55] == 0x00 && sector(360)[56] == 0x7F);
     HOLDS(sector(360)[3] == 707 % 256 && sector(360)[4] == 707 / 256);
-    make("D:A", 126);
-    HOLDS(memcmp(sector(4) + 125, "\x00\x05\x7D", 3) == 0 && memcmp(sector(5) + 125, "\x00\x00\x01", 3) == 0);
-    make("D:B", 125);
-    HOLDS(memcmp(sector(6) + 125, "\x04\x00\x7D", 3) == 0);
+    make("D:A", kind->data + 1);
+    HOLDS(ends(4, 0, 5, kind->data) && ends(5, 0, 0, 1));
+    make("D:B", kind->data);
+    HOLDS(ends(6, 4, 0, kind->data));
 
     fresh();
     make("D:A", 3);
@@ -108,7 +137,7 @@ static void files(void)
 
     fresh();
     EXPECT(by_name(0, DOS_OPEN, DOS_WRITE, "D:A"), DOS_SUCCESS, 0);
-    EXPECT(by_buffer(0, DOS_PUT, buffer, 88375), DOS_SUCCESS, 88375);
+    EXPECT(by_buffer(0, DOS_PUT, buffer, 707 * kind->data), DOS_SUCCESS, 707 * kind->data);
     EXPECT(by_buffer(0, DOS_PUT, buffer, 1), DOS_DISK_FULL, 0);
 }
 
@@ -140,7 +169,7 @@ static void recovery(void)
     make("D:B", 1);
     EXPECT(by_name(0, DOS_DELETE, 0, "D:A"), DOS_SUCCESS, 0);
     EXPECT(by_name(0, DOS_DELETE, 0, "D:B"), DOS_SUCCESS, 0);
-    make("D:C", 126);
+    make("D:C", kind->data + 1);
     EXPECT(by_name(0, DOS_DELETE, 0, "D:C"), DOS_SUCCESS, 0);
     EXPECT(recover(1), DOS_LOST_CHAIN, 0);
     EXPECT(recover(0), DOS_SUCCESS, 2);
@@ -152,7 +181,7 @@ static void recovery(void)
     EXPECT(by_name(0, DOS_RENAME, 0, "D:A,B"), DOS_SUCCESS, 0);
     EXPECT(recover(1), DOS_NAME_TAKEN, 0);
     EXPECT(recover(64), DOS_NOT_FOUND, 0);
-    EXPECT(dos_recover(image, 92159, 1), DOS_BAD_IMAGE, 0);
+    EXPECT(dos_recover(image, kind->length - 1, 1), DOS_BAD_IMAGE, 0);
 }
 
 /* Examples 2 and 3: names, and what a refused one leaves. */
@@ -199,9 +228,9 @@ static void refusals(void)
     EXPECT(by_name(2, DOS_OPEN, DOS_WRITE, "D:B"), DOS_SUCCESS, 0);
     remember();
     memcpy(words, table, sizeof words);
-    EXPECT(dos_cio(image, DOS_IMAGE_BYTES, table, 39, 0, 13, 0, text, 4, NULL, 0), DOS_BAD_ARGUMENT, 0);
-    EXPECT(dos_cio(image, DOS_IMAGE_BYTES, table, 41, 0, 13, 0, text, 4, NULL, 0), DOS_BAD_ARGUMENT, 0);
-    EXPECT(dos_cio(image, 92161, table, 40, 0, 13, 0, text, 4, NULL, 0), DOS_BAD_IMAGE, 0);
+    EXPECT(dos_cio(image, kind->length, table, 39, 0, 13, 0, text, 4, NULL, 0), DOS_BAD_ARGUMENT, 0);
+    EXPECT(dos_cio(image, kind->length, table, 41, 0, 13, 0, text, 4, NULL, 0), DOS_BAD_ARGUMENT, 0);
+    EXPECT(dos_cio(image, kind->length + 1, table, 40, 0, 13, 0, text, 4, NULL, 0), DOS_BAD_IMAGE, 0);
     EXPECT(by_name(8, DOS_STATUS, 0, "D:A"), DOS_BAD_CHANNEL, 0);
     EXPECT(by_name(0, 2, 0, "D:A"), DOS_BAD_COMMAND, 0);
     EXPECT(by_name(0, 99, 0, "D:A"), DOS_NOT_SERVED, 0);
@@ -224,57 +253,70 @@ static void refusals(void)
     EXPECT(by_name(1, DOS_DELETE, 0, "D:A"), DOS_FILE_LOCKED, 0);
     EXPECT(by_name(1, DOS_UNLOCK, 0, "D:A"), DOS_SUCCESS, 0);
     EXPECT(by_name(1, DOS_STATUS, 0, "D:A"), DOS_SUCCESS, 0);
-    image[359 * 128 + 3] ^= 1;
+    sector(360)[3] ^= 1;
     EXPECT(by_name(1, DOS_DELETE, 0, "D:A"), DOS_BAD_TABLE, 0);
 }
 
 /* A file whose link leads to a sector of another one: its bytes before that are read, and it is not deleted. */
 static void damage(void)
 {
-    uint8_t out[126];
+    uint8_t out[DOS_DOUBLE_SECTOR_BYTES];
 
     fresh();
-    make("D:A", 126);
+    make("D:A", kind->data + 1);
     make("D:B", 1);
-    image[3 * DOS_SECTOR_BYTES + 126] = 6;
+    sector(4)[kind->data + 1] = 6;
     remember();
     EXPECT(by_name(0, DOS_DELETE, 0, "D:A"), DOS_BAD_CHAIN, 0);
     EXPECT(by_name(0, DOS_OPEN, DOS_WRITE, "D:A"), DOS_BAD_CHAIN, 0);
     EXPECT(by_name(0, DOS_OPEN, DOS_READ, "D:A"), DOS_SUCCESS, 0);
-    EXPECT(by_buffer(0, DOS_GET, out, sizeof out), DOS_BAD_CHAIN, 125);
-    HOLDS(unchanged() && memcmp(out, buffer, 125) == 0);
+    EXPECT(by_buffer(0, DOS_GET, out, sizeof out), DOS_BAD_CHAIN, kind->data);
+    HOLDS(unchanged() && memcmp(out, buffer, kind->data) == 0);
+}
+
+/* A sector call to the device that answers, with a buffer of that length. */
+static uint64_t on_sector(uint8_t command, uint16_t number, uint8_t *block, size_t length)
+{
+    return dos_sector(image, kind->length, DOS_SECTOR_DEVICE, DOS_SECTOR_UNIT, command, number, block, length);
 }
 
 /* Sector calls and showing. */
 static void sectors(void)
 {
-    uint8_t block[DOS_SECTOR_BYTES];
+    uint8_t block[DOS_DOUBLE_SECTOR_BYTES];
+    size_t size = kind->size;
     uint64_t shown;
 
     fresh();
-    make("D:A", 126);
-    EXPECT(dos_sector(image, DOS_IMAGE_BYTES, DOS_SECTOR_DEVICE, DOS_SECTOR_UNIT, DOS_SECTOR_READ, 4, block, 128), DOS_SUCCESS, 128);
-    HOLDS(memcmp(block, sector(4), 128) == 0);
-    EXPECT(dos_sector(image, DOS_IMAGE_BYTES, DOS_SECTOR_DEVICE, DOS_SECTOR_UNIT, DOS_SECTOR_WRITE, 720, block, 128), DOS_SUCCESS, 128);
-    HOLDS(memcmp(block, sector(720), 128) == 0);
-    EXPECT(dos_sector(image, DOS_IMAGE_BYTES, DOS_SECTOR_DEVICE, DOS_SECTOR_UNIT, DOS_SECTOR_PUT, 1, block, 128), DOS_SUCCESS, 128);
-    HOLDS(memcmp(block, sector(1), 128) == 0);
+    make("D:A", kind->data + 1);
+    EXPECT(on_sector(DOS_SECTOR_READ, 4, block, size), DOS_SUCCESS, size);
+    HOLDS(memcmp(block, sector(4), size) == 0);
+    EXPECT(on_sector(DOS_SECTOR_WRITE, 720, block, size), DOS_SUCCESS, size);
+    HOLDS(memcmp(block, sector(720), size) == 0 && sector(720) + size == image + kind->length);
+    EXPECT(on_sector(DOS_SECTOR_PUT, 1, block, 128), DOS_SUCCESS, 128);
+    HOLDS(memcmp(block, sector(1), 128) == 0 && sector(2)[0] == 0);
+    EXPECT(on_sector(DOS_SECTOR_WRITE, 3, block, 128), DOS_SUCCESS, 128);
+    HOLDS(memcmp(block, sector(3), 128) == 0 && sector(3) + 128 == sector(4));
     remember();
-    EXPECT(dos_sector(image, 0, DOS_SECTOR_DEVICE, DOS_SECTOR_UNIT, DOS_SECTOR_READ, 4, block, 128), DOS_BAD_IMAGE, 0);
-    EXPECT(dos_sector(image, DOS_IMAGE_BYTES, 0x32, DOS_SECTOR_UNIT, DOS_SECTOR_READ, 4, block, 128), DOS_NO_DEVICE, 0);
-    EXPECT(dos_sector(image, DOS_IMAGE_BYTES, DOS_SECTOR_DEVICE, 2, DOS_SECTOR_READ, 4, block, 128), DOS_NO_DEVICE, 0);
-    EXPECT(dos_sector(image, DOS_IMAGE_BYTES, DOS_SECTOR_DEVICE, DOS_SECTOR_UNIT, 0x53, 4, block, 128), DOS_BAD_REQUEST, 0);
-    EXPECT(dos_sector(image, DOS_IMAGE_BYTES, DOS_SECTOR_DEVICE, DOS_SECTOR_UNIT, DOS_SECTOR_READ, 0, block, 128), DOS_BAD_REQUEST, 0);
-    EXPECT(dos_sector(image, DOS_IMAGE_BYTES, DOS_SECTOR_DEVICE, DOS_SECTOR_UNIT, DOS_SECTOR_WRITE, 721, block, 128), DOS_BAD_REQUEST, 0);
-    EXPECT(dos_sector(image, DOS_IMAGE_BYTES, DOS_SECTOR_DEVICE, DOS_SECTOR_UNIT, DOS_SECTOR_WRITE, 4, block, 127), DOS_BAD_LENGTH, 0);
+    EXPECT(dos_sector(image, 0, DOS_SECTOR_DEVICE, DOS_SECTOR_UNIT, DOS_SECTOR_READ, 4, block, size), DOS_BAD_IMAGE, 0);
+    EXPECT(dos_sector(image, kind->length, 0x32, DOS_SECTOR_UNIT, DOS_SECTOR_READ, 4, block, size), DOS_NO_DEVICE, 0);
+    EXPECT(dos_sector(image, kind->length, DOS_SECTOR_DEVICE, 2, DOS_SECTOR_READ, 4, block, size), DOS_NO_DEVICE, 0);
+    EXPECT(on_sector(0x53, 4, block, size), DOS_BAD_REQUEST, 0);
+    EXPECT(on_sector(DOS_SECTOR_READ, 0, block, size), DOS_BAD_REQUEST, 0);
+    EXPECT(on_sector(DOS_SECTOR_WRITE, 721, block, size), DOS_BAD_REQUEST, 0);
+    EXPECT(on_sector(DOS_SECTOR_WRITE, 4, block, size - 1), DOS_BAD_LENGTH, 0);
+    EXPECT(on_sector(DOS_SECTOR_WRITE, 4, block, 128 + 256 - size), DOS_BAD_LENGTH, 0);
+    EXPECT(on_sector(DOS_SECTOR_WRITE, 3, block, 256), DOS_BAD_LENGTH, 0);
     HOLDS(unchanged());
 
-    shown = dos_show(image, DOS_IMAGE_BYTES, 0, 5);
-    HOLDS(dos_shown(shown) && dos_shown_offset(shown) == 4 * 128 && dos_shown_length(shown) == 1);
-    shown = dos_show(image, DOS_IMAGE_BYTES, 0, 719);
-    HOLDS(dos_shown(shown) && dos_shown_offset(shown) == 718 * 128 && dos_shown_length(shown) == 0);
-    HOLDS(dos_show(image, DOS_IMAGE_BYTES, 1, 5) == 0 && dos_show(image, DOS_IMAGE_BYTES, 64, 5) == 0);
-    HOLDS(dos_show(image, DOS_IMAGE_BYTES, 0, 360) == 0 && dos_show(image, 92159, 0, 5) == 0);
+    shown = dos_show(image, kind->length, 0, 5);
+    HOLDS(dos_shown(shown) && image + dos_shown_offset(shown) == sector(5) && dos_shown_length(shown) == 1);
+    shown = dos_show(image, kind->length, 0, 4);
+    HOLDS(dos_shown(shown) && image + dos_shown_offset(shown) == sector(4) && dos_shown_length(shown) == kind->data);
+    shown = dos_show(image, kind->length, 0, 719);
+    HOLDS(dos_shown(shown) && image + dos_shown_offset(shown) == sector(719) && dos_shown_length(shown) == 0);
+    HOLDS(dos_show(image, kind->length, 1, 5) == 0 && dos_show(image, kind->length, 64, 5) == 0);
+    HOLDS(dos_show(image, kind->length, 0, 360) == 0 && dos_show(image, kind->length - 1, 0, 5) == 0);
 }
 
 /* The thin calls on one channel's five words. */
@@ -283,28 +325,29 @@ static void thin(void)
     uint16_t reader[DOS_CHANNEL_WORDS] = {DOS_KIND_READING, 0, 0, 0, 3};
     uint16_t writer[DOS_CHANNEL_WORDS];
     uint16_t closed[DOS_CHANNEL_WORDS] = {DOS_KIND_CLOSED, 0, 0, 0, 0};
-    uint8_t out[300];
+    uint8_t out[3 * DOS_DOUBLE_SECTOR_BYTES];
+    size_t length = 2 * kind->data + 50;
 
     fresh();
     EXPECT(by_name(0, DOS_OPEN, DOS_WRITE, "D:A"), DOS_SUCCESS, 0);
     memcpy(writer, table, sizeof writer);
-    EXPECT(dos_thin_put(image, DOS_IMAGE_BYTES, writer, 5, buffer, 300), DOS_SUCCESS, 300);
+    EXPECT(dos_thin_put(image, kind->length, writer, 5, buffer, length), DOS_SUCCESS, length);
     HOLDS(writer[DOS_WORD_KIND] == DOS_KIND_WRITING && writer[DOS_WORD_SECTOR] == 6);
-    EXPECT(dos_thin_get(image, DOS_IMAGE_BYTES, reader, 5, out, 10), DOS_SUCCESS, 10);
-    EXPECT(dos_thin_get(image, DOS_IMAGE_BYTES, reader, 5, out + 10, 290), DOS_SUCCESS, 290);
-    HOLDS(memcmp(out, buffer, 300) == 0);
+    EXPECT(dos_thin_get(image, kind->length, reader, 5, out, 10), DOS_SUCCESS, 10);
+    EXPECT(dos_thin_get(image, kind->length, reader, 5, out + 10, length - 10), DOS_SUCCESS, length - 10);
+    HOLDS(memcmp(out, buffer, length) == 0);
     HOLDS(reader[DOS_WORD_SECTOR] == 6 && reader[DOS_WORD_OFFSET] == 50 && reader[DOS_WORD_LEFT] == 0);
-    EXPECT(dos_thin_get(image, DOS_IMAGE_BYTES, reader, 5, out, 1), DOS_END_OF_FILE, 0);
-    EXPECT(dos_thin_get(image, DOS_IMAGE_BYTES, writer, 5, out, 1), DOS_WRITE_ONLY, 0);
-    EXPECT(dos_thin_put(image, DOS_IMAGE_BYTES, reader, 5, buffer, 1), DOS_READ_ONLY, 0);
-    EXPECT(dos_thin_get(image, DOS_IMAGE_BYTES, closed, 5, out, 1), DOS_CHANNEL_CLOSED, 0);
-    EXPECT(dos_thin_put(image, DOS_IMAGE_BYTES, closed, 5, buffer, 1), DOS_CHANNEL_CLOSED, 0);
-    EXPECT(dos_thin_get(image, 92159, reader, 5, out, 1), DOS_BAD_IMAGE, 0);
-    EXPECT(dos_thin_put(image, 92159, writer, 5, buffer, 1), DOS_BAD_IMAGE, 0);
-    EXPECT(dos_thin_get(image, DOS_IMAGE_BYTES, reader, 4, out, 1), DOS_BAD_ARGUMENT, 0);
-    EXPECT(dos_thin_put(image, DOS_IMAGE_BYTES, writer, 6, buffer, 1), DOS_BAD_ARGUMENT, 0);
+    EXPECT(dos_thin_get(image, kind->length, reader, 5, out, 1), DOS_END_OF_FILE, 0);
+    EXPECT(dos_thin_get(image, kind->length, writer, 5, out, 1), DOS_WRITE_ONLY, 0);
+    EXPECT(dos_thin_put(image, kind->length, reader, 5, buffer, 1), DOS_READ_ONLY, 0);
+    EXPECT(dos_thin_get(image, kind->length, closed, 5, out, 1), DOS_CHANNEL_CLOSED, 0);
+    EXPECT(dos_thin_put(image, kind->length, closed, 5, buffer, 1), DOS_CHANNEL_CLOSED, 0);
+    EXPECT(dos_thin_get(image, kind->length - 1, reader, 5, out, 1), DOS_BAD_IMAGE, 0);
+    EXPECT(dos_thin_put(image, kind->length - 1, writer, 5, buffer, 1), DOS_BAD_IMAGE, 0);
+    EXPECT(dos_thin_get(image, kind->length, reader, 4, out, 1), DOS_BAD_ARGUMENT, 0);
+    EXPECT(dos_thin_put(image, kind->length, writer, 6, buffer, 1), DOS_BAD_ARGUMENT, 0);
     closed[DOS_WORD_KIND] = 3;
-    EXPECT(dos_thin_get(image, DOS_IMAGE_BYTES, closed, 5, out, 1), DOS_BAD_ARGUMENT, 0);
+    EXPECT(dos_thin_get(image, kind->length, closed, 5, out, 1), DOS_BAD_ARGUMENT, 0);
 }
 
 /* NULL with length 0, in every place that takes a pointer. */
@@ -321,19 +364,67 @@ static void nothing_lent(void)
     EXPECT(by_buffer(0, DOS_STATUS, NULL, 0), DOS_BAD_DEVICE, 0);
     EXPECT(by_buffer(0, DOS_RENAME, NULL, 0), DOS_BAD_DEVICE, 0);
     EXPECT(by_buffer(0, DOS_FORMAT, NULL, 0), DOS_BAD_DEVICE, 0);
-    EXPECT(dos_cio(image, DOS_IMAGE_BYTES, NULL, 0, 0, DOS_GET, 0, NULL, 0, NULL, 0), DOS_BAD_ARGUMENT, 0);
+    EXPECT(dos_cio(image, kind->length, NULL, 0, 0, DOS_GET, 0, NULL, 0, NULL, 0), DOS_BAD_ARGUMENT, 0);
     EXPECT(dos_cio(NULL, 0, table, DOS_TABLE_WORDS, 0, DOS_GET, 0, NULL, 0, NULL, 0), DOS_BAD_IMAGE, 0);
     EXPECT(dos_recover(NULL, 0, 0), DOS_BAD_IMAGE, 0);
     EXPECT(dos_sector(NULL, 0, DOS_SECTOR_DEVICE, 1, DOS_SECTOR_READ, 1, NULL, 0), DOS_BAD_IMAGE, 0);
-    EXPECT(dos_sector(image, DOS_IMAGE_BYTES, DOS_SECTOR_DEVICE, 1, DOS_SECTOR_READ, 1, NULL, 0), DOS_BAD_LENGTH, 0);
+    EXPECT(dos_sector(image, kind->length, DOS_SECTOR_DEVICE, 1, DOS_SECTOR_READ, 1, NULL, 0), DOS_BAD_LENGTH, 0);
     HOLDS(dos_show(NULL, 0, 0, 4) == 0);
-    EXPECT(dos_thin_get(image, DOS_IMAGE_BYTES, channel, 5, NULL, 0), DOS_SUCCESS, 0);
+    EXPECT(dos_thin_get(image, kind->length, channel, 5, NULL, 0), DOS_SUCCESS, 0);
     EXPECT(dos_thin_get(NULL, 0, channel, 5, NULL, 0), DOS_BAD_IMAGE, 0);
-    EXPECT(dos_thin_get(image, DOS_IMAGE_BYTES, NULL, 0, NULL, 0), DOS_BAD_ARGUMENT, 0);
-    EXPECT(dos_thin_put(image, DOS_IMAGE_BYTES, table + 10, 5, NULL, 0), DOS_SUCCESS, 0);
+    EXPECT(dos_thin_get(image, kind->length, NULL, 0, NULL, 0), DOS_BAD_ARGUMENT, 0);
+    EXPECT(dos_thin_put(image, kind->length, table + 10, 5, NULL, 0), DOS_SUCCESS, 0);
     EXPECT(dos_thin_put(NULL, 0, NULL, 0, NULL, 0), DOS_BAD_ARGUMENT, 0);
     EXPECT(dos_name(NULL, 0, buffer, DOS_NAME_BYTES), DOS_BAD_DEVICE, 0);
     EXPECT(dos_name(NULL, 0, NULL, 0), DOS_BAD_ARGUMENT, 0);
+    EXPECT(dos_header(NULL, 0), DOS_BAD_IMAGE, 0);
+}
+
+/* The header of an ATR file: what is written, what has to agree, and where 205 stands. */
+static void headers(void)
+{
+    static const uint8_t single_header[7] = {0x96, 0x02, 0x80, 0x16, 0x80, 0x00, 0x00};
+    static const uint8_t double_header[7] = {0x96, 0x02, 0xE8, 0x2C, 0x00, 0x01, 0x00};
+    uint16_t closed[DOS_CHANNEL_WORDS] = {DOS_KIND_CLOSED, 0, 0, 0, 0};
+    size_t i;
+
+    memset(image, 0xA5, sizeof image);
+    remember();
+    if (!kind->header) {
+        EXPECT(dos_header(image, kind->length), DOS_BAD_IMAGE, 0);
+        HOLDS(unchanged());
+        return;
+    }
+    EXPECT(dos_header(image, kind->length - 1), DOS_BAD_IMAGE, 0);
+    EXPECT(dos_header(image, kind->length + 1), DOS_BAD_IMAGE, 0);
+    HOLDS(unchanged());
+    EXPECT(dos_header(image, kind->length), DOS_SUCCESS, 0);
+    HOLDS(memcmp(image, kind->size == DOS_SECTOR_BYTES ? single_header : double_header, 7) == 0);
+    for (i = 7; i < DOS_HEADER_BYTES; i++)
+        HOLDS(image[i] == 0);
+    HOLDS(memcmp(image + DOS_HEADER_BYTES, before + DOS_HEADER_BYTES, sizeof image - DOS_HEADER_BYTES) == 0);
+
+    fresh();
+    make("D:A", 1);
+    for (i = 0; i < 7; i++) {
+        image[i] ^= 1;
+        remember();
+        EXPECT(by_name(8, DOS_STATUS, 0, "D:A"), DOS_BAD_HEADER, 0);
+        EXPECT(dos_cio(image, kind->length - 1, table, 40, 8, 0, 0, NULL, 0, NULL, 0), DOS_BAD_IMAGE, 0);
+        EXPECT(dos_cio(image, kind->length, table, 39, 8, 0, 0, NULL, 0, NULL, 0), DOS_BAD_ARGUMENT, 0);
+        EXPECT(recover(64), DOS_BAD_HEADER, 0);
+        EXPECT(dos_sector(image, kind->length, 0, 0, 0, 0, NULL, 0), DOS_BAD_HEADER, 0);
+        EXPECT(dos_thin_get(image, kind->length, closed, 5, NULL, 0), DOS_BAD_HEADER, 0);
+        EXPECT(dos_thin_put(image, kind->length, closed, 5, NULL, 0), DOS_BAD_HEADER, 0);
+        HOLDS(dos_show(image, kind->length, 0, 4) == 0);
+        HOLDS(unchanged());
+        image[i] ^= 1;
+    }
+    memset(image + 7, 0xA5, DOS_HEADER_BYTES - 7);
+    EXPECT(by_name(0, DOS_STATUS, 0, "D:A"), DOS_SUCCESS, 0);
+    remember();
+    EXPECT(by_name(0, DOS_FORMAT, 0, "D:"), DOS_SUCCESS, 0);
+    HOLDS(memcmp(image, before, DOS_HEADER_BYTES) == 0);
 }
 
 int main(void)
@@ -342,14 +433,18 @@ int main(void)
 
     for (i = 0; i < sizeof buffer; i++)
         buffer[i] = (uint8_t)(i * 7 + i / 251);
-    files();
-    recovery();
     names();
-    refusals();
-    damage();
-    sectors();
-    thin();
-    nothing_lent();
+    for (i = 0; i < sizeof kinds / sizeof kinds[0]; i++) {
+        kind = &kinds[i];
+        files();
+        recovery();
+        refusals();
+        damage();
+        sectors();
+        thin();
+        nothing_lent();
+        headers();
+    }
     puts(failures ? "failed" : "ok");
     return failures != 0;
 }

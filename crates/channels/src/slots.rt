@@ -3,10 +3,10 @@ use super::table::held_by_channel;
 use image::slot::flag;
 use layout::Found;
 use layout::Table;
+use layout::density::Medium;
 ghost use mathlib.Core.Path.{_≡_};
 ghost use Prim.Native.Nat.{_<_};
-ghost use lib.ListN.{length};
-ghost use Rattle.layout.specs.Image.{single, view};
+ghost use Rattle.layout.specs.Image.{Whole, geometryOf, view};
 ghost use Rattle.layout.specs.Directory.{TellsFound, deleted, output};
 ghost use Rattle.layout.specs.Channels.{held, vacant, newSlot};
 ghost use Rattle.layout.specs.Status.{success, noSlot};
@@ -27,20 +27,20 @@ pub fn output(f: u8) -> bool
 }
 
 // A channel holds its slot; a slot with flag $01 is held too.
-pub fn held(image: &[u8], t: Table, s: u16) -> bool
-    requires { ⌜ (length (now image) ≡ 92160) × (s < 64) ⌝ }
-    ensures { λ r. ⌜ r ≡ held (view single (now (image .entry))) t s ⌝ }
+pub fn held(m: Medium, image: &[u8], t: Table, s: u16) -> bool
+    requires { ⌜ Whole m (now image) × (s < 64) ⌝ }
+    ensures { λ r. ⌜ r ≡ held (view (geometryOf m) (now (image .entry))) t s ⌝ }
 {
-    let f = flag(image, s);
+    let f = flag(m, image, s);
     held_by_channel(t, s) | output(f)
 }
 
 // A slot that a new file may take: deleted or zero, and held by no channel.
-pub fn vacant(image: &[u8], t: Table, s: u16) -> bool
-    requires { ⌜ (length (now image) ≡ 92160) × (s < 64) ⌝ }
-    ensures { λ r. ⌜ r ≡ vacant (view single (now (image .entry))) t s ⌝ }
+pub fn vacant(m: Medium, image: &[u8], t: Table, s: u16) -> bool
+    requires { ⌜ Whole m (now image) × (s < 64) ⌝ }
+    ensures { λ r. ⌜ r ≡ vacant (view (geometryOf m) (now (image .entry))) t s ⌝ }
 {
-    let f = flag(image, s);
+    let f = flag(m, image, s);
     let unused = (f == 0) | deleted(f);
     if !unused {
         return false;
@@ -49,13 +49,13 @@ pub fn vacant(image: &[u8], t: Table, s: u16) -> bool
 }
 
 // The lowest such slot.
-pub fn new_slot(image: &[u8], t: Table) -> Found
-    requires { ⌜ length (now image) ≡ 92160 ⌝ }
-    ensures { λ r. ⌜ TellsFound success noSlot (newSlot (view single (now (image .entry))) t) r × Below r ⌝ }
+pub fn new_slot(m: Medium, image: &[u8], t: Table) -> Found
+    requires { ⌜ Whole m (now image) ⌝ }
+    ensures { λ r. ⌜ TellsFound success noSlot (newSlot (view (geometryOf m) (now (image .entry))) t) r × Below r ⌝ }
 {
     let mut s: u16 = 0;
     while s < 64 {
-        if vacant(image, t, s) {
+        if vacant(m, image, t, s) {
             return Found::At(s);
         }
         s += 1;

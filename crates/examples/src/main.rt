@@ -1,8 +1,14 @@
-// The ten bench examples of document 01, run through the library's calls, a line for each. What a line says is what the calls
-// answered, or what the sector call reads back.
+// The ten bench examples of document 01, run through the library's calls, a line for each, and what is other on a disk of double
+// density. What a line says is what the calls answered, or what the sector call reads back.
+mod double;
 mod steps;
 
 use channels::table::fresh_table;
+use double::double_fills;
+use double::double_gets;
+use double::double_header;
+use double::double_links;
+use double::double_sectors;
 use names::name_status;
 use names::read_name;
 use recovery::recover;
@@ -11,21 +17,22 @@ use steps::answer;
 use steps::byte_at;
 use steps::call;
 use steps::fill_directory;
+use steps::first_sector;
 use steps::hex;
+use steps::last_bytes;
 use steps::make;
+use steps::next_sector;
 use steps::number;
+use steps::sector_count;
 use steps::step;
+use steps::table_bytes;
 use steps::word;
 
 // 1. Format: map bytes 10, 55, 56 and the free count.
 fn example1(image: &mut Image) {
     step(b"1  format ", image, 254, b"D:\x9B");
-    io::write_all(1, b": map bytes");
-    hex(byte_at(image, 360, 10));
-    hex(byte_at(image, 360, 55));
-    hex(byte_at(image, 360, 56));
-    let count = word(byte_at(image, 360, 3), byte_at(image, 360, 4));
-    number(b", free count ", count as u64);
+    io::write_all(1, b": ");
+    table_bytes(image);
     io::write_all(1, b"\n");
 }
 
@@ -91,27 +98,21 @@ fn example5(image: &mut Image) {
         b"; 126 bytes ",
         make(image, b"D:A\x9B", &mut [b'A'; 126]) as u64,
     );
-    let first = word(byte_at(image, 361, 3), byte_at(image, 361, 4));
-    let next = word(byte_at(image, first, 126), byte_at(image, first, 125) % 4);
-    let count = word(byte_at(image, 361, 1), byte_at(image, 361, 2));
-    number(b": sector count ", count as u64);
+    let first = first_sector(image);
+    let next = next_sector(image, 125, first);
+    number(b": sector count ", sector_count(image) as u64);
     number(b", sectors ", first as u64);
     number(b" and ", next as u64);
     io::write_all(1, b", last bytes");
-    hex(byte_at(image, first, 125));
-    hex(byte_at(image, first, 126));
-    hex(byte_at(image, first, 127));
+    last_bytes(image, 125, first);
     io::write_all(1, b" and");
-    hex(byte_at(image, next, 125));
-    hex(byte_at(image, next, 126));
-    hex(byte_at(image, next, 127));
+    last_bytes(image, 125, next);
     step(b"; format ", image, 254, b"D:\x9B");
     number(
         b"; 125 bytes ",
         make(image, b"D:A\x9B", &mut [b'A'; 125]) as u64,
     );
-    let one = word(byte_at(image, 361, 1), byte_at(image, 361, 2));
-    number(b": sector count ", one as u64);
+    number(b": sector count ", sector_count(image) as u64);
     io::write_all(1, b"\n");
 }
 
@@ -220,4 +221,10 @@ fn main() {
     example8(&mut image);
     example9(&mut image);
     example10(&mut image);
+    let mut disk = [77u8; 183952];
+    double_header(&mut disk);
+    double_links(&mut disk);
+    double_gets(&mut disk);
+    double_fills(&mut disk);
+    double_sectors(&mut disk);
 }

@@ -4,22 +4,25 @@ use mathlib.Core.List.{List, [], _∷_}
 use mathlib.Core.Logic.{_⊎_, inl, inr}
 use mathlib.Core.Path.{_≡_, refl, ap, _∙_}
 use Prim.Native.Nat.{ℕ, _+_, _*_, _/_, _%_, _<_}
-use native.Mathlib.Decide.{ℕ-discrete}
 use native.Mathlib.Omega.{arith}
 use lib.Dec.{ltb}
 use lib.ListN.{length}
 use borrow.Author.Tests.{ltb-true}
 use Rattle.layout.specs.declared.Table.{Table}
 use Rattle.layout.specs.Basics.{allBelow, member}
-use Rattle.layout.specs.Image.{Disk, single, view, imageOf}
+use Rattle.layout.specs.declared.Served.{Served}
+use Rattle.layout.specs.declared.Served.the-variants.{As, Not}
+use Rattle.layout.specs.Image.{Disk, Geometry, geometryOf, view}
+use Rattle.layout.specs.Header.{servedAs}
+use Rattle.layout.specs.Status.{badImage, badHeader}
 use Rattle.layout.specs.Channels.{freshTable}
 use Rattle.layout.proofs.Channels.{with-length}
-use Rattle.layout.proofs.Check.{by-check}
+use Rattle.layout.proofs.Check.{by-check, by-served}
 use Rattle.layout.proofs.Logic.{and-left, and-right}
 use Rattle.layout.proofs.Members.{no-member, member-cons}
 use Rattle.rules.specs.declared.Block.{Block}
 use Rattle.rules.specs.Commands.{putAt}
-use Rattle.rules.specs.Cio.{Outcome, getAt, cio, cioCall}
+use Rattle.rules.specs.Cio.{ImageOutcome, getAt, cio, cioCall}
 use Rattle.rules.specs.Demand1.{openAnswers, answers, recoveryAnswers}
 use Rattle.rules.specs.Lists.{Call, cioOf, recoveryOf, run, ImageTable, systemOf, outcomeOn, afterOn, images}
 use Rattle.words.specs.Result.{packed}
@@ -33,9 +36,9 @@ use Rattle.theory.proofs.OnImages.{image-demand2, image-demand3}
 use Rattle.exported.specs.Words.{ImageWords, said, callWords, seen, words, WordsRun, FreshWords, WordsDemand2, WordsDemand3}
 
 -- a CIO call leaves as many channels as there were
-cio-many : (d : Disk) (t : Table) (c : Block) (text b : List ℕ) → length (cio single d t c text b .effect .table .channels) ≡ length (t .channels)
+cio-many : (g : Geometry) (d : Disk) (t : Table) (c : Block) (text b : List ℕ) → length (cio g d t c text b .effect .table .channels) ≡ length (t .channels)
 unfolding getAt putAt
-cio-many d t c text b = by-cases single d t c text b (λ o. length (o .effect .table .channels) ≡ length (t .channels)) (record {
+cio-many g d t c text b = by-cases g d t c text b (λ o. length (o .effect .table .channels) ≡ length (t .channels)) (record {
   refuses = λ n _. refl;
   gets = λ _ _. with-length t (c .channel) _;
   puts = λ _ _. with-length t (c .channel) _;
@@ -53,9 +56,9 @@ cio-many d t c text b = by-cases single d t c text b (λ o. length (o .effect .t
   formats = λ _ _. refl;
 })
 
-call-many : (l : List ℕ) (t : Table) (c : Block) (text b : List ℕ) → length (cioCall single l t c text b .effect .table .channels) ≡ length (t .channels)
+call-many : (l : List ℕ) (t : Table) (c : Block) (text b : List ℕ) → length (cioCall l t c text b .answer .table .channels) ≡ length (t .channels)
 unfolding cioCall
-call-many l t c text b = by-check (λ (o : Outcome). length (o .effect .table .channels) ≡ length (t .channels)) _ _ _ (λ _. refl) (λ _. cio-many (view single l) t c text b)
+call-many l t c text b = by-served (λ (o : ImageOutcome). length (o .answer .table .channels) ≡ length (t .channels)) _ _ _ (λ _ _. refl) (λ m _. cio-many (geometryOf m) (view (geometryOf m) l) t c text b)
 
 -- every status is a byte, so that a result can be taken apart again: it is one of a list of bytes
 bytes : List ℕ → Bool
@@ -82,15 +85,19 @@ answers-bytes c = by-check P _ _ _ (λ _. refl) λ _. by-check P _ _ _ (λ _. re
     P : List ℕ → Type 0
     P l = bytes l ≡ true
 
-status-byte : (c : Call) (x : ImageTable) → outcomeOn c x .effect .status < 256
+status-byte : (c : Call) (x : ImageTable) → outcomeOn c x .answer .status < 256
 unfolding outcomeOn bytes
-status-byte c x = go c (ℕ-discrete (length (x .image)) 92160)
+status-byte c x = go c (servedAs (x .image)) refl
   where
-    go : (c : Call) → Dec (length (x .image) ≡ 92160) → outcomeOn c x .effect .status < 256
-    go (cioOf c text b) (yes w) = member-byte (answers c) (answers-bytes c) _ (demand1 .answers (x .image) w .calls (x .table) c text b)
-    go (recoveryOf s) (yes w) = member-byte recoveryAnswers refl _ (demand1 .answers (x .image) w .recoveries s)
-    go (cioOf c text b) (no n) = rw (demand1 .unserved (x .image) n .calls (x .table) c text b) (omega arith)
-    go (recoveryOf s) (no n) = rw (demand1 .unserved (x .image) n .recoveries s) (omega arith)
+    small : (n : ℕ) → (n ≡ badImage) ⊎ (n ≡ badHeader) → n < 256
+    small n (inl e) = omega arith
+    small n (inr e) = omega arith
+
+    go : (c : Call) (v : Served) → servedAs (x .image) ≡ v → outcomeOn c x .answer .status < 256
+    go (cioOf c text b) (As m) w = member-byte (answers c) (answers-bytes c) _ (demand1 .answers (x .image) m w .calls (x .table) c text b)
+    go (recoveryOf s) (As m) w = member-byte recoveryAnswers refl _ (demand1 .answers (x .image) m w .recoveries s)
+    go (cioOf c text b) (Not n) w = rw (demand1 .unserved (x .image) n w .calls (x .table) c text b) (small n (demand1 .reasons (x .image) .only n w))
+    go (recoveryOf s) (Not n) w = rw (demand1 .unserved (x .image) n w .recoveries s) (small n (demand1 .reasons (x .image) .only n w))
 
 -- one call
 module _ (x : ImageWords) (h : isTable (x .words) ≡ true) where
@@ -99,16 +106,16 @@ module _ (x : ImageWords) (h : isTable (x .words) ≡ true) where
   call-table (cioOf c text b) = rw (on-table (x .image) (x .words) c text b h) (words-table (x .words) _ h)
   call-table (recoveryOf s) = h
 
-  call-said : (c : Call) → said (callWords c x .after) ≡ afterOn (said x) (outcomeOn c (said x) .effect)
+  call-said : (c : Call) → said (callWords c x .after) ≡ afterOn (outcomeOn c (said x))
   unfolding callWords outcomeOn
   call-said (cioOf c text b) =
       let t = tableOf (x .words) in
-      let e = cioCall single (x .image) t c text b .effect in
+      let o = cioCall (x .image) t c text b in
       rw (on-table (x .image) (x .words) c text b h)
-      (ap (λ u. record { image = imageOf single (length (x .image)) (e .disk); table = u }) (words-say (x .words) (e .table) (table-length (x .words) h) (call-many (x .image) t c text b ∙ table-eight (x .words))))
+      (ap (λ u. record { image = o .image; table = u }) (words-say (x .words) (o .answer .table) (table-length (x .words) h) (call-many (x .image) t c text b ∙ table-eight (x .words))))
   call-said (recoveryOf s) = refl
 
-  call-result : (c : Call) → let e = outcomeOn c (said x) .effect in callWords c x .result ≡ packed (e .status) (e .count)
+  call-result : (c : Call) → let a = outcomeOn c (said x) .answer in callWords c x .result ≡ packed (a .status) (a .count)
   unfolding callWords outcomeOn
   call-result (cioOf c text b) = rw (on-table (x .image) (x .words) c text b h)
   call-result (recoveryOf s) = refl
@@ -119,9 +126,9 @@ module _ (x : ImageWords) (h : isTable (x .words) ≡ true) where
   call-buffer (recoveryOf s) = refl
 
   -- what the caller sees of a call is its outcome on the image
-  call-seen : (c : Call) → seen c x ≡ images .outcome c (said x)
-  call-seen c =
-      let e = outcomeOn c (said x) .effect in
+  call-seen : (g : Geometry) (c : Call) → seen g c x ≡ images g .outcome c (said x)
+  call-seen g c =
+      let e = outcomeOn c (said x) .answer in
       let y = call-said c in
       rw (call-result c, call-buffer c, ap (λ (z : ImageTable). z .image) y, ap (λ (z : ImageTable). z .table) y, status-in (e .status) (e .count) (status-byte c (said x)), count-in (e .status) (e .count) (status-byte c (said x)))
     where
@@ -132,40 +139,41 @@ module _ (x : ImageWords) (h : isTable (x .words) ≡ true) where
       count-in status count h = omega arith
 
 -- a list of calls
-run-table : (cs : List Call) (x : ImageWords) → isTable (x .words) ≡ true → isTable (run words cs x .words) ≡ true
-unfolding run
-run-table [] x h = h
-run-table (c ∷ cs) x h = run-table cs (callWords c x .after) (call-table x h c)
+module _ (g : Geometry) where
+  run-table : (cs : List Call) (x : ImageWords) → isTable (x .words) ≡ true → isTable (run (words g) cs x .words) ≡ true
+  unfolding run
+  run-table [] x h = h
+  run-table (c ∷ cs) x h = run-table cs (callWords c x .after) (call-table x h c)
 
-run-said : (cs : List Call) (x : ImageWords) → isTable (x .words) ≡ true → said (run words cs x) ≡ run images cs (said x)
-unfolding run
-run-said [] x h = refl
-run-said (c ∷ cs) x h = run-said cs (callWords c x .after) (call-table x h c) ∙ ap (run images cs) (call-said x h c)
+  run-said : (cs : List Call) (x : ImageWords) → isTable (x .words) ≡ true → said (run (words g) cs x) ≡ run (images g) cs (said x)
+  unfolding run
+  run-said [] x h = refl
+  run-said (c ∷ cs) x h = run-said cs (callWords c x .after) (call-table x h c) ∙ ap (run (images g) cs) (call-said x h c)
+
+  -- so the exported functions run alike to the rules on images
+  words-alike : (x : ImageWords) → isTable (x .words) ≡ true → Alike (words g) (images g) x (said x)
+  words-alike x h = record {
+    systems = λ cs. ap (systemOf g) (run-said cs x h);
+    outcomes = λ cs c. call-seen (run (words g) cs x) (run-table cs x h) g c ∙ ap (images g .outcome c) (run-said cs x h);
+  }
 
 pub words-run : WordsRun
-words-run x h cs =
-    let y = run words cs x in
-    let t = run-table cs x h in
-    let e = run-said cs x h in
+words-run g x h cs =
+    let y = run (words g) cs x in
+    let t = run-table g cs x h in
+    let e = run-said g cs x h in
     record {
       table = t;
       same = e;
-      result = λ c. call-result y t c ∙ ap (λ z. packed (outcomeOn c z .effect .status) (outcomeOn c z .effect .count)) e;
+      result = λ c. call-result y t c ∙ ap (λ z. packed (outcomeOn c z .answer .status) (outcomeOn c z .answer .count)) e;
       buffer = λ c. call-buffer y t c ∙ ap (λ z. outcomeOn c z .buffer) e;
     }
 
--- so the exported functions run alike to the rules on images
-words-alike : (x : ImageWords) → isTable (x .words) ≡ true → Alike words images x (said x)
-words-alike x h = record {
-  systems = λ cs. ap systemOf (run-said cs x h);
-  outcomes = λ cs c. call-seen (run words cs x) (run-table cs x h) c ∙ ap (images .outcome c) (run-said cs x h);
-}
-
 pub words-demand2 : WordsDemand2
-words-demand2 x h a = demand2-alike words images single x (said x) (words-alike x h) (image-demand2 (said x) a)
+words-demand2 m x h a = let g = geometryOf m in demand2-alike (words g) (images g) g x (said x) (words-alike g x h) (image-demand2 m (said x) a)
 
 pub words-demand3 : WordsDemand3
-words-demand3 x h a = demand3-alike words images single x (said x) (words-alike x h) (image-demand3 (said x) a)
+words-demand3 m x h a = let g = geometryOf m in demand3-alike (words g) (images g) g x (said x) (words-alike g x h) (image-demand3 m (said x) a)
 
 -- forty zeros
 pub fresh-words : FreshWords

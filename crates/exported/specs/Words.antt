@@ -3,8 +3,9 @@ use mathlib.Core.Bool.{true}
 use mathlib.Core.List.{List, []}
 use mathlib.Core.Path.{_≡_}
 use Prim.Native.Nat.{ℕ, _/_, _%_}
-use lib.ListN.{length, replicate}
-use Rattle.layout.specs.Image.{single, view, imageOf}
+use lib.ListN.{replicate}
+use Rattle.layout.specs.declared.density.Medium.{Medium}
+use Rattle.layout.specs.Image.{Geometry, geometryOf, view}
 use Rattle.layout.specs.Channels.{freshTable}
 use Rattle.rules.specs.Cio.{Outcome, outcome}
 use Rattle.rules.specs.Recovery.{recoverCall}
@@ -34,31 +35,32 @@ pub record Leaves : Type 0 where
 unfoldable pub callWords : Call → ImageWords → Leaves
 callWords (cioOf c text b) x = let o = cioLeaves (x .image) (x .words) c text b in
     record { result = o .result; buffer = o .buffer; after = record { image = o .image; words = o .table } }
-callWords (recoveryOf s) x = let o = recoverCall single (x .image) s in
-    record { result = packed (o .reply .status) (o .reply .count); buffer = []; after = record { image = imageOf single (length (x .image)) (o .disk); words = x .words } }
+callWords (recoveryOf s) x = let o = recoverCall (x .image) s in
+    record { result = packed (o .reply .status) (o .reply .count); buffer = []; after = record { image = o .image; words = x .words } }
 
--- a call as its caller sees it: status and count as the header takes them out of the result (dos_answer_status, dos_answer_count), the disk and the channels after it, and the buffer. The sectors given out and the slot taken are not told: they are those of the rules
-abbrev pub seen : Call → ImageWords → Outcome
-seen c x = let o = callWords c x in let e = outcomeOn c (said x) .effect in
-    outcome (record { status = o .result % 256; count = o .result / 256; disk = view single (o .after .image); table = tableOf (o .after .words); given = e .given; took = e .took }) (o .buffer)
+module _ (g : Geometry) where
+  -- a call as its caller sees it: status and count as the header takes them out of the result (dos_answer_status, dos_answer_count), the disk and the channels after it, and the buffer. The sectors given out and the slot taken are not told: they are those of the rules
+  abbrev pub seen : Call → ImageWords → Outcome
+  seen c x = let o = callWords c x in let e = outcomeOn c (said x) in
+      outcome (record { status = o .result % 256; count = o .result / 256; disk = view g (o .after .image); table = tableOf (o .after .words); given = e .given; took = e .took }) (o .buffer)
 
--- calls of the exported functions
-abbrev pub words : Machine ImageWords
-words = record { system = λ x. systemOf (said x); outcome = seen; next = λ c x. callWords c x .after }
+  -- calls of the exported functions on images, whose disks are read by this geometry
+  abbrev pub words : Machine ImageWords
+  words = record { system = λ x. systemOf g (said x); outcome = seen; next = λ c x. callWords c x .after }
 
--- after this list of calls
-pub record AsRules (x : ImageWords) (cs : List Call) : Type 0 where
-  -- the words are a table again
-  pub table : isTable (run words cs x .words) ≡ true
-  -- the image, and the channels that the words say, are those of the rules
-  pub same : said (run words cs x) ≡ run images cs (said x)
-  -- the next call, whichever it is, answers the status and the count of the rules and leaves their buffer
-  pub result : (c : Call) → let e = outcomeOn c (run images cs (said x)) .effect in callWords c (run words cs x) .result ≡ packed (e .status) (e .count)
-  pub buffer : (c : Call) → callWords c (run words cs x) .buffer ≡ outcomeOn c (run images cs (said x)) .buffer
+  -- after this list of calls
+  pub record AsRules (x : ImageWords) (cs : List Call) : Type 0 where
+    -- the words are a table again
+    pub table : isTable (run words cs x .words) ≡ true
+    -- the image, and the channels that the words say, are those of the rules
+    pub same : said (run words cs x) ≡ run (images g) cs (said x)
+    -- the next call, whichever it is, answers the status and the count of the rules and leaves their buffer
+    pub result : (c : Call) → let a = outcomeOn c (run (images g) cs (said x)) .answer in callWords c (run words cs x) .result ≡ packed (a .status) (a .count)
+    pub buffer : (c : Call) → callWords c (run words cs x) .buffer ≡ outcomeOn c (run (images g) cs (said x)) .buffer
 
--- from any image, and any words that are a table
+-- from any image, served or not, and any words that are a table
 abbrev pub WordsRun : Type 0
-WordsRun = (x : ImageWords) → isTable (x .words) ≡ true → (cs : List Call) → AsRules x cs
+WordsRun = (g : Geometry) (x : ImageWords) → isTable (x .words) ≡ true → (cs : List Call) → AsRules g x cs
 
 -- a table of forty zeros is the fresh table
 abbrev pub zeros : List ℕ
@@ -67,9 +69,9 @@ zeros = replicate 40 0
 abbrev pub FreshWords : Type 0
 FreshWords = (isTable zeros ≡ true) × (tableOf zeros ≡ freshTable)
 
--- demands 2 and 3 of the exported functions: on an image of 92,160 bytes whose disk is sound with the channels that the words say
+-- demands 2 and 3 of the exported functions: on an image that is served, as any medium, and whose disk is sound with the channels that the words say
 abbrev pub WordsDemand2 : Type 0
-WordsDemand2 = (x : ImageWords) → isTable (x .words) ≡ true → SoundImage (said x) → Demand2 single words x
+WordsDemand2 = (m : Medium) (x : ImageWords) → isTable (x .words) ≡ true → SoundImage m (said x) → let g = geometryOf m in Demand2 g (words g) x
 
 abbrev pub WordsDemand3 : Type 0
-WordsDemand3 = (x : ImageWords) → isTable (x .words) ≡ true → SoundImage (said x) → Demand3 single words x
+WordsDemand3 = (m : Medium) (x : ImageWords) → isTable (x .words) ≡ true → SoundImage m (said x) → let g = geometryOf m in Demand3 g (words g) x

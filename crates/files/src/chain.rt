@@ -5,49 +5,49 @@ use image::link::owner;
 use image::link::used;
 use image::slot::count;
 use image::slot::first;
+use layout::density::Medium;
 use volume::map::is_free;
 ghost use mathlib.Core.Path.{_≡_};
 ghost use Prim.Native.Nat.{_+_, _-_, _≤_, _<_};
-ghost use lib.ListN.{length};
-ghost use Rattle.layout.specs.Image.{single, view};
+ghost use Rattle.layout.specs.Image.{Whole, geometryOf, view};
 ghost use Rattle.layout.specs.File.{fits, belongs, cleanFrom, cleanAs, clean, cleanFree};
 
-// What a chain asks of its sector: a data sector that carries the slot number and holds at most 125 bytes.
-pub fn fits(image: &[u8], slot: u16, sector: u16) -> bool
-    requires { ⌜ length (now image) ≡ 92160 ⌝ }
-    ensures { λ r. ⌜ r ≡ fits single (view single (now (image .entry)) sector) slot sector ⌝ }
+// What a chain asks of its sector: a data sector that carries the slot number and holds no more bytes than a file sector's data.
+pub fn fits(m: Medium, image: &[u8], slot: u16, sector: u16) -> bool
+    requires { ⌜ Whole m (now image) ⌝ }
+    ensures { λ r. ⌜ r ≡ fits (geometryOf m) (view (geometryOf m) (now (image .entry)) sector) slot sector ⌝ }
 {
     if !data_sector(sector) {
         return false;
     }
-    (owner(image, sector) == slot) & (used(image, sector) <= 125)
+    (owner(m, image, sector) == slot) & (used(m, image, sector) as usize <= m.density.room)
 }
 
 // And it is marked used, or free where `freed` says so.
-fn belongs(image: &[u8], freed: bool, slot: u16, sector: u16) -> bool
-    requires { ⌜ length (now image) ≡ 92160 ⌝ }
-    ensures { λ r. ⌜ r ≡ belongs single freed (view single (now (image .entry))) slot sector ⌝ }
+fn belongs(m: Medium, image: &[u8], freed: bool, slot: u16, sector: u16) -> bool
+    requires { ⌜ Whole m (now image) ⌝ }
+    ensures { λ r. ⌜ r ≡ belongs (geometryOf m) freed (view (geometryOf m) (now (image .entry))) slot sector ⌝ }
 {
-    if !fits(image, slot, sector) {
+    if !fits(m, image, slot, sector) {
         return false;
     }
-    is_free(image, sector) == freed
+    is_free(m, image, sector) == freed
 }
 
 // How many sectors from `start` on, at most `n`, pass that test and each lead to the sector after it on the disk.
 // The sector is a plain count and its link is only compared with it, so that no sector waits for the link before it.
-fn clean_run(image: &[u8], freed: bool, slot: u16, n: u16, start: u16) -> u16
-    requires { ⌜ length (now image) ≡ 92160 ⌝ }
+fn clean_run(m: Medium, image: &[u8], freed: bool, slot: u16, n: u16, start: u16) -> u16
+    requires { ⌜ Whole m (now image) ⌝ }
     ensures { λ r. ⌜ (r ≤ n) × (start + r < 65536)
-        × (cleanFrom single freed (view single (now (image .entry))) slot n start ≡ cleanFrom single freed (view single (now (image .entry))) slot (n - r) (start + r)) ⌝ }
+        × (cleanFrom (geometryOf m) freed (view (geometryOf m) (now (image .entry))) slot n start ≡ cleanFrom (geometryOf m) freed (view (geometryOf m) (now (image .entry))) slot (n - r) (start + r)) ⌝ }
 {
     let mut j: u16 = 0;
     while j < n {
         let sector = start + j;
-        if !belongs(image, freed, slot, sector) {
+        if !belongs(m, image, freed, slot, sector) {
             return j;
         }
-        if next(image, sector) != sector + 1 {
+        if next(m, image, sector) != sector + 1 {
             return j;
         }
         j += 1;
@@ -56,20 +56,20 @@ fn clean_run(image: &[u8], freed: bool, slot: u16, n: u16, start: u16) -> u16
 }
 
 // `n` steps meet only such sectors, and lead to next sector 0. Where a link leads to the sector after it on the disk, as most do, `clean_run` walks on from there.
-fn clean_from(image: &[u8], freed: bool, slot: u16, n: u16, start: u16) -> bool
-    requires { ⌜ length (now image) ≡ 92160 ⌝ }
-    ensures { λ r. ⌜ r ≡ cleanFrom single freed (view single (now (image .entry))) slot n start ⌝ }
+fn clean_from(m: Medium, image: &[u8], freed: bool, slot: u16, n: u16, start: u16) -> bool
+    requires { ⌜ Whole m (now image) ⌝ }
+    ensures { λ r. ⌜ r ≡ cleanFrom (geometryOf m) freed (view (geometryOf m) (now (image .entry))) slot n start ⌝ }
 {
     let mut k = start;
     let mut i: u16 = 0;
     while i < n {
-        if !belongs(image, freed, slot, k) {
+        if !belongs(m, image, freed, slot, k) {
             return false;
         }
-        let after = next(image, k);
+        let after = next(m, image, k);
         i += 1;
         if after == k + 1 {
-            let run = clean_run(image, freed, slot, n - i, after);
+            let run = clean_run(m, image, freed, slot, n - i, after);
             k = after + run;
             i += run;
         } else {
@@ -80,31 +80,31 @@ fn clean_from(image: &[u8], freed: bool, slot: u16, n: u16, start: u16) -> bool
 }
 
 // The slot's count is 1 to 707, and its chain passes.
-fn clean_as(image: &[u8], freed: bool, slot: u16) -> bool
-    requires { ⌜ (length (now image) ≡ 92160) × (slot < 64) ⌝ }
-    ensures { λ r. ⌜ r ≡ cleanAs single freed (view single (now (image .entry))) slot ⌝ }
+fn clean_as(m: Medium, image: &[u8], freed: bool, slot: u16) -> bool
+    requires { ⌜ Whole m (now image) × (slot < 64) ⌝ }
+    ensures { λ r. ⌜ r ≡ cleanAs (geometryOf m) freed (view (geometryOf m) (now (image .entry))) slot ⌝ }
 {
-    let n = count(image, slot);
+    let n = count(m, image, slot);
     let within = (1 <= n) & (n <= 707);
     if !within {
         return false;
     }
-    let start = first(image, slot);
-    clean_from(image, freed, slot, n, start)
+    let start = first(m, image, slot);
+    clean_from(m, image, freed, slot, n, start)
 }
 
 // A slot's chain is clean.
-pub fn clean(image: &[u8], slot: u16) -> bool
-    requires { ⌜ (length (now image) ≡ 92160) × (slot < 64) ⌝ }
-    ensures { λ r. ⌜ r ≡ clean single (view single (now (image .entry))) slot ⌝ }
+pub fn clean(m: Medium, image: &[u8], slot: u16) -> bool
+    requires { ⌜ Whole m (now image) × (slot < 64) ⌝ }
+    ensures { λ r. ⌜ r ≡ clean (geometryOf m) (view (geometryOf m) (now (image .entry))) slot ⌝ }
 {
-    clean_as(image, false, slot)
+    clean_as(m, image, false, slot)
 }
 
 // Clean in every respect but that its sectors must be free.
-pub fn clean_free(image: &[u8], slot: u16) -> bool
-    requires { ⌜ (length (now image) ≡ 92160) × (slot < 64) ⌝ }
-    ensures { λ r. ⌜ r ≡ cleanFree single (view single (now (image .entry))) slot ⌝ }
+pub fn clean_free(m: Medium, image: &[u8], slot: u16) -> bool
+    requires { ⌜ Whole m (now image) × (slot < 64) ⌝ }
+    ensures { λ r. ⌜ r ≡ cleanFree (geometryOf m) (view (geometryOf m) (now (image .entry))) slot ⌝ }
 {
-    clean_as(image, true, slot)
+    clean_as(m, image, true, slot)
 }

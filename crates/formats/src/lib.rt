@@ -1,19 +1,21 @@
-// A formatted disk: all zero but a good table with 707 free.
+// A formatted disk: all zero but a good table with 707 free, and the header, which stays.
 use image::bytes::put_byte;
+use layout::density::Density;
+use layout::density::Medium;
 ghost use mathlib.Core.Path.{_≡_};
 ghost use Prim.Native.Nat.{_<_};
-ghost use lib.ListN.{length};
-ghost use Rattle.layout.specs.Image.{single, view};
-ghost use Rattle.layout.specs.Volume.{freshMap, freshVolume, fresh};
-ghost use Rattle.formats.specs.Zeros.{zeros};
+ghost use Rattle.layout.specs.Image.{Whole, geometryOf, view};
+ghost use Rattle.layout.specs.Volume.{freshMap, freshVolume, formatted};
+ghost use Rattle.formats.specs.Zeros.{cleared};
 
-// All bytes of the image set to zero.
-fn clear(image: &mut [u8])
-    requires { ⌜ length (now image) ≡ 92160 ⌝ }
-    ensures { λ _. ⌜ view single (now (image .exit)) ≡ zeros ⌝ }
+// All bytes behind the header set to zero.
+fn clear(m: Medium, image: &mut [u8])
+    requires { ⌜ Whole m (now image) ⌝ }
+    ensures { λ _. ⌜ view (geometryOf m) (now (image .exit)) ≡ cleared (view (geometryOf m) (now (image .entry))) ⌝ }
 {
-    let mut i: usize = 0;
-    while i < 92160 {
+    let n = image.len();
+    let mut i = m.header;
+    while i < n {
         image[i] = 0;
         i += 1;
     }
@@ -56,14 +58,14 @@ fn table_byte(j: usize) -> u8
 }
 
 // The formatted disk.
-pub fn format(image: &mut [u8])
-    requires { ⌜ length (now image) ≡ 92160 ⌝ }
-    ensures { λ _. ⌜ view single (now (image .exit)) ≡ fresh ⌝ }
+pub fn format(m: Medium, image: &mut [u8])
+    requires { ⌜ Whole m (now image) ⌝ }
+    ensures { λ _. ⌜ view (geometryOf m) (now (image .exit)) ≡ formatted (view (geometryOf m) (now (image .entry))) ⌝ }
 {
-    clear(image);
+    clear(m, image);
     let mut j: usize = 0;
-    while j < 128 {
-        put_byte(image, 360, j, table_byte(j));
+    while j < Density::TABLE_BYTES {
+        put_byte(m, image, 360, j, table_byte(j));
         j += 1;
     }
 }

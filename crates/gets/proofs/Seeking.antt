@@ -2,11 +2,11 @@
 use mathlib.Core.Bool.{true, false, not, _&&_, _||_}
 use mathlib.Core.Logic.{_≢_}
 use mathlib.Core.Path.{_≡_, sym, ap, subst}
-use Prim.Native.Nat.{ℕ, suc, zero, _-_, _≤_, _<_}
+use Prim.Native.Nat.{ℕ, suc, zero, _+_, _-_, _≤_, _<_}
 use native.Mathlib.Decide.{ℕ-discrete}
 use native.Mathlib.Omega.{arith}
 use lib.Dec.{eqb, leb, ltb}
-use borrow.Author.Tests.{eqb-true, ne-eqb, eqb-false, lt-ltb, le-ltb, ltb-true, not-true}
+use borrow.Author.Tests.{eqb-true, ne-eqb, eqb-false, lt-ltb, le-ltb, leb-true, ltb-true, not-true}
 use Rattle.layout.specs.Image.{Disk, Geometry}
 use Rattle.layout.specs.File.{next, used, fits}
 use Rattle.layout.proofs.Logic.{and-left, and-right}
@@ -16,7 +16,7 @@ use Rattle.rules.specs.declared.Place.{Place}
 use Rattle.rules.specs.declared.Seek.{Seek}
 use Rattle.rules.specs.declared.Seek.the-variants.{Ready, Ended, Broken}
 use Rattle.rules.specs.Get.{place, seekStatus, seekPlace, TellsSeek, nextToEnter, hasByte, ends, seek, readable}
-use Rattle.gets.specs.Entered.{Entered, ByteLeft, Sought, full}
+use Rattle.gets.specs.Entered.{Entered, ByteLeft, Sought, atHand, full}
 
 -- an answer that is the enum of the rules has its number and its values
 pub tells-seek : {x r : Seek} → r ≡ x → TellsSeek x r
@@ -29,7 +29,7 @@ sought-left {g} {d} e h = subst (λ q. Sought g d q) e h
 module _ (g : Geometry) (d : Disk) where
   -- a sector that fits may be entered
   pub fits-entered : (s k : ℕ) → fits g (d k) s k ≡ true → Entered g d k
-  fits-entered s k e = let q = data-facts k (fits-data g (d k) s k e) in record { most = omega arith; small = λ _. fits-used g (d k) s k e }
+  fits-entered s k e = let q = data-facts k (fits-data g (d k) s k e) in record { most = omega arith; least = λ _. omega arith; small = λ _. fits-used g (d k) s k e }
 
   -- a get may go on from a place that is readable
   pub readable-entered : (s k o : ℕ) → readable g d s k o ≡ true → (s < 64) × Entered g d k
@@ -37,19 +37,25 @@ module _ (g : Geometry) (d : Disk) where
   readable-entered s k o e = (ltb-true s 64 (and-left (ltb s 64) _ e), go (ℕ-discrete k 0) (and-right (ltb s 64) _ e))
     where
       go : Dec (k ≡ 0) → (eqb k 0 || fits g (d k) s k && leb o (used g (d k))) ≡ true → Entered g d k
-      go (yes z) f = record { most = omega arith; small = λ n. absurd (omega arith) }
+      go (yes z) f = record { most = omega arith; least = λ n. absurd (omega arith); small = λ n. absurd (omega arith) }
       go (no z) f = fits-entered s k (and-left (fits g (d k) s k) _ (rw (ne-eqb k 0 z) at f))
 
   pub has-byte : (k o : ℕ) → 1 ≤ k → o < used g (d k) → hasByte g d k o ≡ true
   unfolding hasByte
   has-byte k o a b = rw (ne-eqb k 0 (λ e. omega arith), lt-ltb o (used g (d k)) b)
 
+  pub at-hand : (k o n : ℕ) → atHand g d k o n ≡ true → (1 ≤ k) × (o + n ≤ used g (d k))
+  unfolding atHand
+  at-hand k o n e =
+      let z = eqb-false k 0 (not-true (eqb k 0) (and-left (not (eqb k 0)) _ e)) in
+      (omega (arith, z), leb-true (o + n) (used g (d k)) (and-right (not (eqb k 0)) _ e))
+
   pub byte-left : (k o l : ℕ) → Entered g d k → hasByte g d k o ≡ true → ByteLeft g d (place k o l)
   unfolding hasByte
   byte-left k o l t e =
       let n = eqb-false k 0 (not-true (eqb k 0) (and-left (not (eqb k 0)) _ e)) in
       let low : 1 ≤ k = omega (arith, n) in
-      record { low = low; high = t .most; within = ltb-true o (used g (d k)) (and-right (not (eqb k 0)) _ e); small = t .small low }
+      record { low = t .least low; high = t .most; within = ltb-true o (used g (d k)) (and-right (not (eqb k 0)) _ e); small = t .small low }
 
   -- a byte is left; the file ended; no sector is left to enter; the next does not fit; or it is entered
   module _ (s k o : ℕ) where

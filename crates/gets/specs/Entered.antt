@@ -1,26 +1,28 @@
 -- What a get knows of the sectors that it has entered, and how far it has come.
-use mathlib.Core.Bool.{Bool, _&&_}
+use mathlib.Core.Bool.{Bool, true, not, _&&_}
 use mathlib.Core.List.{List}
 use mathlib.Core.Path.{_≡_}
-use Prim.Native.Nat.{ℕ, _-_, _≤_, _<_}
-use lib.Dec.{eqb}
+use Prim.Native.Nat.{ℕ, _+_, _-_, _*_, _≤_, _<_}
+use lib.Dec.{eqb, leb}
 use lib.ListN.{length}
 use Rattle.layout.specs.Image.{Disk, Geometry}
-use Rattle.layout.specs.File.{used, fits}
+use Rattle.layout.specs.Volume.{dataSector}
+use Rattle.layout.specs.File.{next, used, fits}
 use Rattle.rules.specs.declared.Place.{Place}
 use Rattle.rules.specs.declared.Seek.{Seek}
 use Rattle.rules.specs.declared.Seek.the-variants.{Ready, Ended, Broken}
 use Rattle.rules.specs.Get.{place, getFrom}
 
 module _ (g : Geometry) where
-  -- an entered sector is on the disk and holds at most 125 bytes; 0 before any
+  -- an entered sector is on the disk, behind the boot sectors, and holds no more bytes than it can; 0 before any
   pub record Entered (d : Disk) (k : ℕ) : Type 0 where
     pub most : k ≤ 720
+    pub least : 0 < k → 4 ≤ k
     pub small : 1 ≤ k → used g (d k) ≤ g .room
 
   -- a byte of the entered sector is left
   pub record ByteLeft (d : Disk) (p : Place) : Type 0 where
-    pub low : 1 ≤ p .sector
+    pub low : 4 ≤ p .sector
     pub high : p .sector ≤ 720
     pub within : p .offset < used g (d (p .sector))
     pub small : used g (d (p .sector)) ≤ g .room
@@ -30,6 +32,10 @@ module _ (g : Geometry) where
   Sought d (Ready p) = ByteLeft d p
   Sought d (Ended p) = Unit {0}
   Sought d (Broken p) = Unit {0}
+
+  -- an entered sector holds n bytes from offset o on
+  unfoldable pub atHand : Disk → ℕ → ℕ → ℕ → Bool
+  atHand d k o n = not (eqb k 0) && leb (o + n) (used g (d k))
 
   -- a sector fits, and has no room left
   unfoldable pub full : Disk → ℕ → ℕ → Bool
@@ -44,4 +50,22 @@ module _ (g : Geometry) where
 
   -- behind the end of sector k, with l yet to enter and i bytes filled of buffer b, full sectors are entered up to the end of k′, with l′ and i′ and buffer b′
   abbrev pub Fills : Disk → ℕ → ℕ → ℕ → ℕ → List ℕ → ℕ → ℕ → ℕ → List ℕ → Type 0
-  Fills d s k l i b k′ l′ i′ b′ = (1 ≤ k′) × Gets d s (length b) i (place k (g .room) l) b i′ (place k′ (g .room) l′) b′
+  Fills d s k l i b k′ l′ i′ b′ = (4 ≤ k′) × Gets d s (length b) i (place k (g .room) l) b i′ (place k′ (g .room) l′) b′
+
+  -- a full sector leads to the one after it on the disk
+  unfoldable pub leadsOn : Disk → ℕ → ℕ → Bool
+  leadsOn d s k = full d s k && eqb (next g (d k)) (k + 1)
+
+  -- so does a sector that was entered
+  pub record Consecutive (d : Disk) (k : ℕ) : Type 0 where
+    pub entered : Entered d k
+    pub leads : next g (d k) ≡ k + 1
+
+  -- the same of r sectors behind k on the disk, at most n, however many more are yet to enter
+  abbrev pub FillsBehind : Disk → ℕ → ℕ → ℕ → ℕ → List ℕ → ℕ → List ℕ → Type 0
+  FillsBehind d s k n i b r b′ = (r ≤ n) × ((l : ℕ) → n ≤ l → Fills d s k l i b (k + r) (l - r) (i + r * g .room) b′)
+
+-- the n sectors behind sector k on the disk are data sectors
+pub record DataBehind (k n : ℕ) : Type 0 where
+  pub top : k + n < 720
+  pub each : (j : ℕ) → j < n → dataSector (k + 1 + j) ≡ true

@@ -1,9 +1,11 @@
 // Get on one channel, a sector's run of bytes at a time.
 use super::seek::seek_byte;
+use super::seek::step_in;
 use super::whole::get_whole;
 use files::chain::fits;
 use image::link::used;
 use layout::State;
+use layout::density::Medium;
 use layout::status;
 use rules::Advanced;
 use rules::Got;
@@ -14,10 +16,10 @@ use runs::run::least;
 ghost use mathlib.Core.Path.{_≡_};
 ghost use Prim.Native.Nat.{_<_};
 ghost use lib.ListN.{length};
-ghost use Rattle.layout.specs.Image.{single, view};
+ghost use Rattle.layout.specs.Image.{Whole, geometryOf, view};
 ghost use Rattle.layout.specs.declared.State.the-variants.{Reading};
 ghost use Rattle.rules.specs.Get.{advanced, getFrom, readable, getOn};
-ghost use Rattle.gets.specs.Entered.{Entered, ByteLeft, Gets};
+ghost use Rattle.gets.specs.Entered.{Entered, ByteLeft, Gets, atHand};
 
 // What reading bytes leaves.
 fn got(status: u8, count: usize, place: Place) -> Got
@@ -37,32 +39,33 @@ struct Reached {
 }
 
 // What is wanted of the sector where a byte is left; and behind the end of a full one, full sectors at once.
-fn get_here(image: &[u8], slot: u16, p: Place, buffer: &mut [u8], i: usize) -> Reached
-    requires { ⌜ (length (now image) ≡ 92160) × (i < length (now buffer)) × ByteLeft single (view single (now image)) p ⌝ }
-    ensures { λ r. ⌜ (i < r .count) × Gets single (view single (now (image .entry))) slot (length (now (buffer .entry))) i p (now (buffer .entry)) (r .count) (r .place) (now (buffer .exit)) ⌝ }
+fn get_here(m: Medium, image: &[u8], slot: u16, p: Place, buffer: &mut [u8], i: usize) -> Reached
+    requires { ⌜ Whole m (now image) × (slot < 64) × (i < length (now buffer)) × ByteLeft (geometryOf m) (view (geometryOf m) (now image)) p ⌝ }
+    ensures { λ r. ⌜ (i < r .count) × Gets (geometryOf m) (view (geometryOf m) (now (image .entry))) slot (length (now (buffer .entry))) i p (now (buffer .entry)) (r .count) (r .place) (now (buffer .exit)) ⌝ }
 {
+    let room = m.density.room;
     let k = p.sector;
     let o = p.offset;
     let l = p.left;
-    let n = used(image, k) as u16;
-    let m = least((n - o) as usize, buffer.len() - i);
-    get_run(image, k, o as usize, m, buffer, i);
-    let e = o + m as u16;
-    if e != 125 {
+    let n = used(m, image, k) as u16;
+    let run = least((n - o) as usize, buffer.len() - i);
+    get_run(m, image, k, o as usize, run, buffer, i);
+    let e = o + run as u16;
+    if e as usize != room {
         return Reached {
             place: Place {
                 sector: k,
                 offset: e,
                 left: l,
             },
-            count: i + m,
+            count: i + run,
         };
     }
-    let w = get_whole(image, slot, k, l, buffer, i + m);
+    let w = get_whole(m, image, slot, k, l, buffer, i + run);
     Reached {
         place: Place {
             sector: w.sector,
-            offset: 125,
+            offset: room as u16,
             left: w.left,
         },
         count: w.count,
@@ -70,18 +73,18 @@ fn get_here(image: &[u8], slot: u16, p: Place, buffer: &mut [u8], i: usize) -> R
 }
 
 // The buffer filled from a place on.
-pub fn get_from(image: &[u8], slot: u16, start: Place, buffer: &mut [u8]) -> Got
-    requires { ⌜ (length (now image) ≡ 92160) × (slot < 64) × Entered single (view single (now image)) (start .sector) ⌝ }
-    ensures { λ r. ⌜ (r ≡ getFrom single (view single (now (image .entry))) slot (length (now (buffer .entry))) 0 start (now (buffer .entry)) .got)
-        × (now (buffer .exit) ≡ getFrom single (view single (now (image .entry))) slot (length (now (buffer .entry))) 0 start (now (buffer .entry)) .buffer) ⌝ }
+pub fn get_from(m: Medium, image: &[u8], slot: u16, start: Place, buffer: &mut [u8]) -> Got
+    requires { ⌜ Whole m (now image) × (slot < 64) × Entered (geometryOf m) (view (geometryOf m) (now image)) (start .sector) ⌝ }
+    ensures { λ r. ⌜ (r ≡ getFrom (geometryOf m) (view (geometryOf m) (now (image .entry))) slot (length (now (buffer .entry))) 0 start (now (buffer .entry)) .got)
+        × (now (buffer .exit) ≡ getFrom (geometryOf m) (view (geometryOf m) (now (image .entry))) slot (length (now (buffer .entry))) 0 start (now (buffer .entry)) .buffer) ⌝ }
 {
     let mut p = start;
     let mut i: usize = 0;
     while i < buffer.len() {
-        let s = seek_byte(image, slot, p);
+        let s = seek_byte(m, image, slot, p);
         match s {
             Seek::Ready(q) => {
-                let r = get_here(image, slot, q, buffer, i);
+                let r = get_here(m, image, slot, q, buffer, i);
                 p = r.place;
                 i = r.count;
             }
@@ -96,10 +99,44 @@ pub fn get_from(image: &[u8], slot: u16, start: Place, buffer: &mut [u8]) -> Got
     got(status::SUCCESS, i, p)
 }
 
+// The sector, which was entered, holds `n` bytes from the offset on.
+fn at_hand(m: Medium, image: &[u8], sector: u16, offset: u16, n: usize) -> bool
+    requires { ⌜ Whole m (now image) × (n < 9223372036854775808) × Entered (geometryOf m) (view (geometryOf m) (now image)) sector ⌝ }
+    ensures { λ r. ⌜ r ≡ atHand (geometryOf m) (view (geometryOf m) (now (image .entry))) sector offset n ⌝ }
+{
+    if sector == 0 {
+        return false;
+    }
+    offset as usize + n <= used(m, image, sector) as usize
+}
+
+// The buffer filled from a place on. Few bytes mostly lie in the sector that was entered, or in the next: then there is no loop to prepare for.
+fn get_some(m: Medium, image: &[u8], slot: u16, start: Place, buffer: &mut [u8]) -> Got
+    requires { ⌜ Whole m (now image) × (slot < 64) × (0 < length (now buffer)) × Entered (geometryOf m) (view (geometryOf m) (now image)) (start .sector) ⌝ }
+    ensures { λ r. ⌜ (r ≡ getFrom (geometryOf m) (view (geometryOf m) (now (image .entry))) slot (length (now (buffer .entry))) 0 start (now (buffer .entry)) .got)
+        × (now (buffer .exit) ≡ getFrom (geometryOf m) (view (geometryOf m) (now (image .entry))) slot (length (now (buffer .entry))) 0 start (now (buffer .entry)) .buffer) ⌝ }
+{
+    let n = buffer.len();
+    let near = step_in(m, image, slot, start);
+    let k = near.sector;
+    let o = near.offset;
+    let l = near.left;
+    if at_hand(m, image, k, o, n) {
+        get_run(m, image, k, o as usize, n, buffer, 0);
+        let end = Place {
+            sector: k,
+            offset: o + n as u16,
+            left: l,
+        };
+        return got(status::SUCCESS, n, end);
+    }
+    get_from(m, image, slot, near, buffer)
+}
+
 // The slot is at most 63, and an entered sector still fits, with the offset not above its bytes in use.
-pub fn readable(image: &[u8], slot: u16, sector: u16, offset: u16) -> bool
-    requires { ⌜ length (now image) ≡ 92160 ⌝ }
-    ensures { λ r. ⌜ r ≡ readable single (view single (now (image .entry))) slot sector offset ⌝ }
+pub fn readable(m: Medium, image: &[u8], slot: u16, sector: u16, offset: u16) -> bool
+    requires { ⌜ Whole m (now image) ⌝ }
+    ensures { λ r. ⌜ r ≡ readable (geometryOf m) (view (geometryOf m) (now (image .entry))) slot sector offset ⌝ }
 {
     if 64 <= slot {
         return false;
@@ -107,10 +144,10 @@ pub fn readable(image: &[u8], slot: u16, sector: u16, offset: u16) -> bool
     if sector == 0 {
         return true;
     }
-    if !fits(image, slot, sector) {
+    if !fits(m, image, slot, sector) {
         return false;
     }
-    offset <= used(image, sector) as u16
+    offset <= used(m, image, sector) as u16
 }
 
 // An answer, with the reading channel after it.
@@ -130,27 +167,27 @@ fn reading(status: u8, count: usize, slot: u16, p: Place) -> Advanced
 }
 
 // Get on a reading channel.
-fn get_reading(image: &[u8], slot: u16, p: Place, buffer: &mut [u8]) -> Advanced
-    requires { ⌜ length (now image) ≡ 92160 ⌝ }
-    ensures { λ r. ⌜ (r ≡ getOn single (view single (now (image .entry))) (Reading slot (p .sector) (p .offset) (p .left)) (now (buffer .entry)) .answer)
-        × (now (buffer .exit) ≡ getOn single (view single (now (image .entry))) (Reading slot (p .sector) (p .offset) (p .left)) (now (buffer .entry)) .buffer) ⌝ }
+fn get_reading(m: Medium, image: &[u8], slot: u16, p: Place, buffer: &mut [u8]) -> Advanced
+    requires { ⌜ Whole m (now image) ⌝ }
+    ensures { λ r. ⌜ (r ≡ getOn (geometryOf m) (view (geometryOf m) (now (image .entry))) (Reading slot (p .sector) (p .offset) (p .left)) (now (buffer .entry)) .answer)
+        × (now (buffer .exit) ≡ getOn (geometryOf m) (view (geometryOf m) (now (image .entry))) (Reading slot (p .sector) (p .offset) (p .left)) (now (buffer .entry)) .buffer) ⌝ }
 {
     if buffer.len() == 0 {
         return reading(status::SUCCESS, 0, slot, p);
     }
-    if !readable(image, slot, p.sector, p.offset) {
+    if !readable(m, image, slot, p.sector, p.offset) {
         return reading(status::BAD_CHAIN, 0, slot, p);
     }
-    let got = get_from(image, slot, p, buffer);
+    let got = get_some(m, image, slot, p, buffer);
     let q = got.place;
     reading(got.status, got.count, slot, q)
 }
 
 // Get on one channel fills the lent buffer.
-pub fn get_on(image: &[u8], st: State, buffer: &mut [u8]) -> Advanced
-    requires { ⌜ length (now image) ≡ 92160 ⌝ }
-    ensures { λ r. ⌜ (r ≡ getOn single (view single (now (image .entry))) st (now (buffer .entry)) .answer)
-        × (now (buffer .exit) ≡ getOn single (view single (now (image .entry))) st (now (buffer .entry)) .buffer) ⌝ }
+pub fn get_on(m: Medium, image: &[u8], st: State, buffer: &mut [u8]) -> Advanced
+    requires { ⌜ Whole m (now image) ⌝ }
+    ensures { λ r. ⌜ (r ≡ getOn (geometryOf m) (view (geometryOf m) (now (image .entry))) st (now (buffer .entry)) .answer)
+        × (now (buffer .exit) ≡ getOn (geometryOf m) (view (geometryOf m) (now (image .entry))) st (now (buffer .entry)) .buffer) ⌝ }
 {
     match st {
         State::Closed => Advanced {
@@ -169,7 +206,7 @@ pub fn get_on(image: &[u8], st: State, buffer: &mut [u8]) -> Advanced
                 offset,
                 left,
             };
-            get_reading(image, slot, p, buffer)
+            get_reading(m, image, slot, p, buffer)
         }
         State::Writing { slot: _, last: _ } => Advanced {
             status: status::WRITE_ONLY,

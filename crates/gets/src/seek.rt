@@ -3,52 +3,80 @@ use files::chain::fits;
 use image::link::next;
 use image::link::used;
 use image::slot::first;
+use layout::density::Medium;
 use rules::Place;
 use rules::Seek;
 ghost use mathlib.Core.Path.{_≡_};
 ghost use Prim.Native.Nat.{_≤_, _<_};
-ghost use lib.ListN.{length};
-ghost use Rattle.layout.specs.Image.{single, view};
+ghost use Rattle.layout.specs.Image.{Whole, geometryOf, view};
 ghost use Rattle.rules.specs.Get.{TellsSeek, nextToEnter, hasByte, ends, seek};
 ghost use Rattle.gets.specs.Entered.{Entered, Sought};
 
 // A byte of the entered sector is left.
-fn has_byte(image: &[u8], sector: u16, offset: u16) -> bool
-    requires { ⌜ (length (now image) ≡ 92160) × (sector ≤ 720) ⌝ }
-    ensures { λ r. ⌜ r ≡ hasByte single (view single (now (image .entry))) sector offset ⌝ }
+fn has_byte(m: Medium, image: &[u8], sector: u16, offset: u16) -> bool
+    requires { ⌜ Whole m (now image) × (sector ≤ 720) × (0 < sector → 4 ≤ sector) ⌝ }
+    ensures { λ r. ⌜ r ≡ hasByte (geometryOf m) (view (geometryOf m) (now (image .entry))) sector offset ⌝ }
 {
     if sector == 0 {
         return false;
     }
-    offset < used(image, sector) as u16
+    offset < used(m, image, sector) as u16
 }
 
 // Next sector 0 ends the file.
-fn ends(image: &[u8], sector: u16) -> bool
-    requires { ⌜ (length (now image) ≡ 92160) × (sector ≤ 720) ⌝ }
-    ensures { λ r. ⌜ r ≡ ends single (view single (now (image .entry))) sector ⌝ }
+fn ends(m: Medium, image: &[u8], sector: u16) -> bool
+    requires { ⌜ Whole m (now image) × (sector ≤ 720) × (0 < sector → 4 ≤ sector) ⌝ }
+    ensures { λ r. ⌜ r ≡ ends (geometryOf m) (view (geometryOf m) (now (image .entry))) sector ⌝ }
 {
     if sector == 0 {
         return false;
     }
-    next(image, sector) == 0
+    next(m, image, sector) == 0
 }
 
 // The slot's first sector, or after that the link of the last one entered.
-fn next_to_enter(image: &[u8], slot: u16, sector: u16) -> u16
-    requires { ⌜ (length (now image) ≡ 92160) × (slot < 64) × (sector ≤ 720) ⌝ }
-    ensures { λ r. ⌜ r ≡ nextToEnter single (view single (now (image .entry))) slot sector ⌝ }
+fn next_to_enter(m: Medium, image: &[u8], slot: u16, sector: u16) -> u16
+    requires { ⌜ Whole m (now image) × (slot < 64) × (sector ≤ 720) × (0 < sector → 4 ≤ sector) ⌝ }
+    ensures { λ r. ⌜ r ≡ nextToEnter (geometryOf m) (view (geometryOf m) (now (image .entry))) slot sector ⌝ }
 {
     if sector == 0 {
-        return first(image, slot);
+        return first(m, image, slot);
     }
-    next(image, sector)
+    next(m, image, sector)
+}
+
+// A place from which the search goes on as it does from `p`: where no byte of the entered sector is left, the next is entered.
+pub fn step_in(m: Medium, image: &[u8], slot: u16, p: Place) -> Place
+    requires { ⌜ Whole m (now image) × (slot < 64) × Entered (geometryOf m) (view (geometryOf m) (now image)) (p .sector) ⌝ }
+    ensures { λ r. ⌜ Entered (geometryOf m) (view (geometryOf m) (now (image .entry))) (r .sector)
+        × (seek (geometryOf m) (view (geometryOf m) (now (image .entry))) slot (p .sector) (p .offset) (p .left) ≡ seek (geometryOf m) (view (geometryOf m) (now (image .entry))) slot (r .sector) (r .offset) (r .left)) ⌝ }
+{
+    let k = p.sector;
+    let l = p.left;
+    if has_byte(m, image, k, p.offset) {
+        return p;
+    }
+    if ends(m, image, k) {
+        return p;
+    }
+    if l == 0 {
+        return p;
+    }
+    let n = next_to_enter(m, image, slot, k);
+    if !fits(m, image, slot, n) {
+        return p;
+    }
+    Place {
+        sector: n,
+        offset: 0,
+        left: l - 1,
+    }
 }
 
 // Sectors are entered until a byte is left, the file ends or a sector cannot be entered.
-pub fn seek_byte(image: &[u8], slot: u16, p: Place) -> Seek
-    requires { ⌜ (length (now image) ≡ 92160) × (slot < 64) × Entered single (view single (now image)) (p .sector) ⌝ }
-    ensures { λ r. ⌜ (let d = view single (now (image .entry)) in TellsSeek (seek single d slot (p .sector) (p .offset) (p .left)) r × Sought single d r) ⌝ }
+pub fn seek_byte(m: Medium, image: &[u8], slot: u16, p: Place) -> Seek
+    requires { ⌜ Whole m (now image) × (slot < 64) × Entered (geometryOf m) (view (geometryOf m) (now image)) (p .sector) ⌝ }
+    ensures { λ r. ⌜ (let d = view (geometryOf m) (now (image .entry)) in TellsSeek (seek (geometryOf m) d slot (p .sector) (p .offset) (p .left)) r × Sought (geometryOf m) d r) ⌝ }
 {
     let mut k = p.sector;
     let mut o = p.offset;
@@ -59,17 +87,17 @@ pub fn seek_byte(image: &[u8], slot: u16, p: Place) -> Seek
             offset: o,
             left: l,
         };
-        if has_byte(image, k, o) {
+        if has_byte(m, image, k, o) {
             return Seek::Ready(at);
         }
-        if ends(image, k) {
+        if ends(m, image, k) {
             return Seek::Ended(at);
         }
         if l == 0 {
             return Seek::Broken(at);
         }
-        let n = next_to_enter(image, slot, k);
-        if !fits(image, slot, n) {
+        let n = next_to_enter(m, image, slot, k);
+        if !fits(m, image, slot, n) {
             return Seek::Broken(at);
         }
         k = n;

@@ -1,51 +1,84 @@
 // The last three bytes of a file sector: slot number and next sector, and the bytes in use.
-use super::bytes::byte;
-use super::bytes::put_byte;
+use super::bytes::file_byte;
+use super::bytes::file_byte_at;
+use super::bytes::put_file_byte;
+use layout::density::Density;
+use layout::density::Medium;
 ghost use mathlib.Core.Path.{_≡_};
 ghost use Prim.Native.Nat.{_+_, _-_, _*_, _≤_, _<_};
 ghost use lib.ListN.{length};
-ghost use Rattle.layout.specs.Image.{single, view};
+ghost use Rattle.layout.specs.Image.{Whole, geometryOf, view};
 ghost use Rattle.layout.specs.File.{owner, next, used, putLink, putUsed};
 
-// Byte 125, upper six bits: the slot number.
-pub fn owner(image: &[u8], sector: u16) -> u16
-    requires { ⌜ (length (now image) ≡ 92160) × (1 ≤ sector) × (sector ≤ 720) ⌝ }
-    ensures { λ r. ⌜ r ≡ owner single (view single (now (image .entry)) sector) ⌝ }
+// The first of them, upper six bits: the slot number.
+pub fn owner(m: Medium, image: &[u8], sector: u16) -> u16
+    requires { ⌜ Whole m (now image) × (4 ≤ sector) × (sector ≤ 720) ⌝ }
+    ensures { λ r. ⌜ r ≡ owner (geometryOf m) (view (geometryOf m) (now (image .entry)) sector) ⌝ }
 {
-    (byte(image, sector, 125) / 4) as u16
+    (file_byte(m, image, sector, m.density.room) / 4) as u16
 }
 
-// The next sector: the lower two bits of byte 125, and byte 126.
-pub fn next(image: &[u8], sector: u16) -> u16
-    requires { ⌜ (length (now image) ≡ 92160) × (1 ≤ sector) × (sector ≤ 720) ⌝ }
-    ensures { λ r. ⌜ r ≡ next single (view single (now (image .entry)) sector) ⌝ }
+// The next sector: the lower two bits of the first, and the second.
+pub fn next(m: Medium, image: &[u8], sector: u16) -> u16
+    requires { ⌜ Whole m (now image) × (4 ≤ sector) × (sector ≤ 720) ⌝ }
+    ensures { λ r. ⌜ r ≡ next (geometryOf m) (view (geometryOf m) (now (image .entry)) sector) ⌝ }
 {
-    let high = byte(image, sector, 125);
-    let low = byte(image, sector, 126);
+    let high = file_byte(m, image, sector, m.density.room);
+    let low = file_byte(m, image, sector, m.density.room + Density::NEXT);
     (high % 4) as u16 * 256 + low as u16
 }
 
-// Byte 127: bytes in use.
-pub fn used(image: &[u8], sector: u16) -> u8
-    requires { ⌜ (length (now image) ≡ 92160) × (1 ≤ sector) × (sector ≤ 720) ⌝ }
-    ensures { λ r. ⌜ r ≡ used single (view single (now (image .entry)) sector) ⌝ }
+// The last: bytes in use.
+pub fn used(m: Medium, image: &[u8], sector: u16) -> u8
+    requires { ⌜ Whole m (now image) × (4 ≤ sector) × (sector ≤ 720) ⌝ }
+    ensures { λ r. ⌜ r ≡ used (geometryOf m) (view (geometryOf m) (now (image .entry)) sector) ⌝ }
 {
-    byte(image, sector, 127)
+    file_byte(m, image, sector, m.density.room + Density::USED)
+}
+
+// The first two as one number, read at once, of the sector that starts at `at`.
+pub fn link_at(m: Medium, image: &[u8], sector: u16, at: usize) -> u16
+    requires { ⌜ Whole m (now image) × (4 ≤ sector) × (sector ≤ 720) × (at ≡ geometryOf m .start sector) ⌝ }
+    ensures { λ r. ⌜ (let t = view (geometryOf m) (now (image .entry)) sector in r ≡ owner (geometryOf m) t * 1024 + next (geometryOf m) t) ⌝ }
+{
+    let high = file_byte_at(m, image, sector, at, m.density.room);
+    let low = file_byte_at(m, image, sector, at, m.density.room + Density::NEXT);
+    high as u16 * 256 + low as u16
+}
+
+// The last, of the sector that starts at `at`.
+pub fn used_at(m: Medium, image: &[u8], sector: u16, at: usize) -> u8
+    requires { ⌜ Whole m (now image) × (4 ≤ sector) × (sector ≤ 720) × (at ≡ geometryOf m .start sector) ⌝ }
+    ensures { λ r. ⌜ r ≡ used (geometryOf m) (view (geometryOf m) (now (image .entry)) sector) ⌝ }
+{
+    file_byte_at(m, image, sector, at, m.density.room + Density::USED)
 }
 
 // Slot number and next sector written.
-pub fn put_link(image: &mut [u8], sector: u16, slot: u16, next: u16)
-    requires { ⌜ (length (now image) ≡ 92160) × (1 ≤ sector) × (sector ≤ 720) × (slot < 64) × (next < 1024) ⌝ }
-    ensures { λ _. ⌜ view single (now (image .exit)) ≡ putLink single (view single (now (image .entry))) sector slot next ⌝ }
+pub fn put_link(m: Medium, image: &mut [u8], sector: u16, slot: u16, next: u16)
+    requires { ⌜ Whole m (now image) × (4 ≤ sector) × (sector ≤ 720) × (slot < 64) × (next < 1024) ⌝ }
+    ensures { λ _. ⌜ view (geometryOf m) (now (image .exit)) ≡ putLink (geometryOf m) (view (geometryOf m) (now (image .entry))) sector slot next ⌝ }
 {
-    put_byte(image, sector, 125, (slot * 4 + next / 256) as u8);
-    put_byte(image, sector, 126, (next % 256) as u8);
+    put_file_byte(
+        m,
+        image,
+        sector,
+        m.density.room,
+        (slot * 4 + next / 256) as u8,
+    );
+    put_file_byte(
+        m,
+        image,
+        sector,
+        m.density.room + Density::NEXT,
+        (next % 256) as u8,
+    );
 }
 
 // The bytes in use written.
-pub fn put_used(image: &mut [u8], sector: u16, n: u8)
-    requires { ⌜ (length (now image) ≡ 92160) × (1 ≤ sector) × (sector ≤ 720) ⌝ }
-    ensures { λ _. ⌜ view single (now (image .exit)) ≡ putUsed single (view single (now (image .entry))) sector n ⌝ }
+pub fn put_used(m: Medium, image: &mut [u8], sector: u16, n: u8)
+    requires { ⌜ Whole m (now image) × (4 ≤ sector) × (sector ≤ 720) ⌝ }
+    ensures { λ _. ⌜ view (geometryOf m) (now (image .exit)) ≡ putUsed (geometryOf m) (view (geometryOf m) (now (image .entry))) sector n ⌝ }
 {
-    put_byte(image, sector, 127, n);
+    put_file_byte(m, image, sector, m.density.room + Density::USED, n);
 }

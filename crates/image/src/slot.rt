@@ -1,78 +1,114 @@
 // A slot of the directory: its bytes, flags, sector count and first sector.
 use super::bytes::put_byte;
+use super::bytes::start;
+use layout::density::Medium;
 ghost use mathlib.Core.Path.{_≡_};
-ghost use Prim.Native.Nat.{_+_, _-_, _*_, _≤_, _<_};
+ghost use Prim.Native.Nat.{_+_, _-_, _*_, _/_, _%_, _≤_, _<_};
 ghost use lib.ListN.{length};
-ghost use Rattle.layout.specs.Image.{single, view};
+ghost use Rattle.layout.specs.Image.{Regular, Whole, geometryOf, view};
 ghost use Rattle.layout.specs.Directory.{entry, putEntry, flag, putFlag, count, putCount, first, putFirst};
 
-// Byte j of a slot. Slots follow each other in the image without a gap.
-pub fn entry(image: &[u8], slot: u16, j: usize) -> u8
-    requires { ⌜ (length (now image) ≡ 92160) × (slot < 64) × (j < 16) ⌝ }
-    ensures { λ r. ⌜ r ≡ entry (view single (now (image .entry))) slot j ⌝ }
+// Where a slot starts. Each sector of the directory has eight of them in its first 128 bytes.
+pub fn slot_start(m: Medium, slot: u16) -> usize
+    requires { ⌜ Regular m × (slot < 64) ⌝ }
+    ensures { λ r. ⌜ (r ≡ geometryOf m .start (361 + slot / 8) + slot % 8 * 16) × (r + 16 ≤ geometryOf m .total) ⌝ }
 {
-    let at = 46080 + 16 * slot as usize + j;
-    image[at]
+    start(m, 361 + slot / 8) + (slot % 8) as usize * 16
+}
+
+// Where a slot starts, from where the one before it does: 16 bytes on, or behind every eighth in the next sector.
+pub fn slot_after(m: Medium, slot: u16, at: usize) -> usize
+    requires { ⌜ Regular m × (1 ≤ slot) × (slot ≤ 64) × (at ≡ geometryOf m .start (361 + (slot - 1) / 8) + (slot - 1) % 8 * 16) ⌝ }
+    ensures { λ r. ⌜ r ≡ geometryOf m .start (361 + slot / 8) + slot % 8 * 16 ⌝ }
+{
+    let size = m.density.size;
+    if slot % 8 == 0 {
+        return at + size - 7 * 16;
+    }
+    at + 16
+}
+
+// Byte j of the slot that starts at `at`.
+pub fn entry_at(m: Medium, image: &[u8], slot: u16, at: usize, j: usize) -> u8
+    requires { ⌜ Whole m (now image) × (slot < 64) × (at ≡ geometryOf m .start (361 + slot / 8) + slot % 8 * 16) × (j < 16) ⌝ }
+    ensures { λ r. ⌜ r ≡ entry (view (geometryOf m) (now (image .entry))) slot j ⌝ }
+{
+    let i = at + j;
+    image[i]
+}
+
+// Byte j of a slot.
+pub fn entry(m: Medium, image: &[u8], slot: u16, j: usize) -> u8
+    requires { ⌜ Whole m (now image) × (slot < 64) × (j < 16) ⌝ }
+    ensures { λ r. ⌜ r ≡ entry (view (geometryOf m) (now (image .entry))) slot j ⌝ }
+{
+    entry_at(m, image, slot, slot_start(m, slot), j)
 }
 
 // Byte j of a slot written.
-pub fn put_entry(image: &mut [u8], slot: u16, j: usize, value: u8)
-    requires { ⌜ (length (now image) ≡ 92160) × (slot < 64) × (j < 16) ⌝ }
-    ensures { λ _. ⌜ view single (now (image .exit)) ≡ putEntry (view single (now (image .entry))) slot j value ⌝ }
+pub fn put_entry(m: Medium, image: &mut [u8], slot: u16, j: usize, value: u8)
+    requires { ⌜ Whole m (now image) × (slot < 64) × (j < 16) ⌝ }
+    ensures { λ _. ⌜ view (geometryOf m) (now (image .exit)) ≡ putEntry (view (geometryOf m) (now (image .entry))) slot j value ⌝ }
 {
-    put_byte(image, 361 + slot / 8, (slot % 8) as usize * 16 + j, value);
+    put_byte(
+        m,
+        image,
+        361 + slot / 8,
+        (slot % 8) as usize * 16 + j,
+        value,
+    );
 }
 
 // Byte 0: flags.
-pub fn flag(image: &[u8], slot: u16) -> u8
-    requires { ⌜ (length (now image) ≡ 92160) × (slot < 64) ⌝ }
-    ensures { λ r. ⌜ r ≡ flag (view single (now (image .entry))) slot ⌝ }
+pub fn flag(m: Medium, image: &[u8], slot: u16) -> u8
+    requires { ⌜ Whole m (now image) × (slot < 64) ⌝ }
+    ensures { λ r. ⌜ r ≡ flag (view (geometryOf m) (now (image .entry))) slot ⌝ }
 {
-    entry(image, slot, 0)
+    entry(m, image, slot, 0)
 }
 
 // The flags written.
-pub fn put_flag(image: &mut [u8], slot: u16, value: u8)
-    requires { ⌜ (length (now image) ≡ 92160) × (slot < 64) ⌝ }
-    ensures { λ _. ⌜ view single (now (image .exit)) ≡ putFlag (view single (now (image .entry))) slot value ⌝ }
+pub fn put_flag(m: Medium, image: &mut [u8], slot: u16, value: u8)
+    requires { ⌜ Whole m (now image) × (slot < 64) ⌝ }
+    ensures { λ _. ⌜ view (geometryOf m) (now (image .exit)) ≡ putFlag (view (geometryOf m) (now (image .entry))) slot value ⌝ }
 {
-    put_entry(image, slot, 0, value);
+    put_entry(m, image, slot, 0, value);
 }
 
 // Bytes 1 and 2: sector count.
-pub fn count(image: &[u8], slot: u16) -> u16
-    requires { ⌜ (length (now image) ≡ 92160) × (slot < 64) ⌝ }
-    ensures { λ r. ⌜ r ≡ count (view single (now (image .entry))) slot ⌝ }
+pub fn count(m: Medium, image: &[u8], slot: u16) -> u16
+    requires { ⌜ Whole m (now image) × (slot < 64) ⌝ }
+    ensures { λ r. ⌜ r ≡ count (view (geometryOf m) (now (image .entry))) slot ⌝ }
 {
-    let low = entry(image, slot, 1);
-    let high = entry(image, slot, 2);
+    let low = entry(m, image, slot, 1);
+    let high = entry(m, image, slot, 2);
     low as u16 + 256 * high as u16
 }
 
 // The sector count written.
-pub fn put_count(image: &mut [u8], slot: u16, n: u32)
-    requires { ⌜ (length (now image) ≡ 92160) × (slot < 64) ⌝ }
-    ensures { λ _. ⌜ view single (now (image .exit)) ≡ putCount (view single (now (image .entry))) slot n ⌝ }
+pub fn put_count(m: Medium, image: &mut [u8], slot: u16, n: u32)
+    requires { ⌜ Whole m (now image) × (slot < 64) ⌝ }
+    ensures { λ _. ⌜ view (geometryOf m) (now (image .exit)) ≡ putCount (view (geometryOf m) (now (image .entry))) slot n ⌝ }
 {
-    put_entry(image, slot, 1, (n % 256) as u8);
-    put_entry(image, slot, 2, (n / 256 % 256) as u8);
+    put_entry(m, image, slot, 1, (n % 256) as u8);
+    put_entry(m, image, slot, 2, (n / 256 % 256) as u8);
 }
 
 // Bytes 3 and 4: first sector.
-pub fn first(image: &[u8], slot: u16) -> u16
-    requires { ⌜ (length (now image) ≡ 92160) × (slot < 64) ⌝ }
-    ensures { λ r. ⌜ r ≡ first (view single (now (image .entry))) slot ⌝ }
+pub fn first(m: Medium, image: &[u8], slot: u16) -> u16
+    requires { ⌜ Whole m (now image) × (slot < 64) ⌝ }
+    ensures { λ r. ⌜ r ≡ first (view (geometryOf m) (now (image .entry))) slot ⌝ }
 {
-    let low = entry(image, slot, 3);
-    let high = entry(image, slot, 4);
+    let low = entry(m, image, slot, 3);
+    let high = entry(m, image, slot, 4);
     low as u16 + 256 * high as u16
 }
 
 // The first sector written.
-pub fn put_first(image: &mut [u8], slot: u16, sector: u16)
-    requires { ⌜ (length (now image) ≡ 92160) × (slot < 64) ⌝ }
-    ensures { λ _. ⌜ view single (now (image .exit)) ≡ putFirst (view single (now (image .entry))) slot sector ⌝ }
+pub fn put_first(m: Medium, image: &mut [u8], slot: u16, sector: u16)
+    requires { ⌜ Whole m (now image) × (slot < 64) ⌝ }
+    ensures { λ _. ⌜ view (geometryOf m) (now (image .exit)) ≡ putFirst (view (geometryOf m) (now (image .entry))) slot sector ⌝ }
 {
-    put_entry(image, slot, 3, (sector % 256) as u8);
-    put_entry(image, slot, 4, (sector / 256 % 256) as u8);
+    put_entry(m, image, slot, 3, (sector % 256) as u8);
+    put_entry(m, image, slot, 4, (sector / 256 % 256) as u8);
 }

@@ -5,6 +5,7 @@ pub mod Give
 pub mod Data
 pub mod Check
 pub mod Image
+pub mod Header
 pub mod Run
 pub mod Channels
 pub mod Bits

@@ -1,5 +1,4 @@
 -- A run of bytes of one sector: what it leaves when it is written, and what it reads as.
-use mathlib.Core.Bool.{true}
 use mathlib.Core.List.{List, [], _∷_}
 use mathlib.Core.Logic.{_≢_}
 use mathlib.Core.Path.{_≡_, refl, ap, _∙_}
@@ -9,9 +8,9 @@ use native.Mathlib.Omega.{arith}
 use lib.ListN.{length, getD, take, drop}
 use lib.Seq.{drop-cons}
 use Rattle.layout.specs.Basics.{valuesFrom}
-use Rattle.layout.specs.Image.{Disk, Geometry, inside, view, put, putRun}
+use Rattle.layout.specs.Image.{Disk, Geometry, view, put, putRun}
 use Rattle.layout.proofs.Update.{update-same, update-other, put-same, put-other}
-use Rattle.layout.proofs.Image.{Lawful, view-byte}
+use Rattle.layout.proofs.Image.{view-byte}
 
 -- it leaves the other sectors
 pub run-other : (xs : List ℕ) (d : Disk) (k j x : ℕ) → x ≢ k → putRun d k j xs x ≡ d x
@@ -31,14 +30,13 @@ unfolding putRun valuesFrom
 run-values [] d k j = refl
 run-values (v ∷ xs) d k j = rw (run-before xs (put d k j v) k (j + 1) j (omega arith), run-values xs (put d k j v) k (j + 1), put-same d k j v, update-same (d k) j v)
 
-module _ (g : Geometry) (lawful : Lawful g) where
-  -- a part of the image, within one sector, has that sector's bytes
-  pub part-values : (n : ℕ) (l : List ℕ) (k j : ℕ) → ((i : ℕ) → i < n → inside g k (j + i) ≡ true) → g .start k + j + n ≤ length l
-      → take n (drop (g .start k + j) l) ≡ valuesFrom (view g l k) n j
-  unfolding valuesFrom
-  part-values zero l k j f h = refl
-  part-values (suc n) l k j f h =
-      let here : inside g k j ≡ true = rw (add-zero j) at (f 0 (omega arith)) in
-      let e : suc (g .start k + j) ≡ g .start k + (j + 1) = omega arith in
-      let q : g .start k + j < length l = omega arith in
-      rw (drop-cons l (g .start k + j) 0 q, e, view-byte g lawful l k j here) (ap (λ xs. getD l (g .start k + j) 0 ∷ xs) (part-values n l k (j + 1) (λ i q. let d : j + 1 + i ≡ j + suc i = omega arith in rw d (f (suc i) (omega arith))) (omega arith)))
+-- a part of the image, within one sector, has that sector's bytes
+pub part-values : (g : Geometry) (n : ℕ) (l : List ℕ) (k j : ℕ) → ((i : ℕ) → i < n → j + i < g .size k) → g .start k + j + n ≤ length l
+    → take n (drop (g .start k + j) l) ≡ valuesFrom (view g l k) n j
+unfolding valuesFrom
+part-values g zero l k j f h = refl
+part-values g (suc n) l k j f h =
+    let here : j < g .size k = rw (add-zero j) at (f 0 (omega arith)) in
+    let e : suc (g .start k + j) ≡ g .start k + (j + 1) = omega arith in
+    let q : g .start k + j < length l = omega arith in
+    rw (drop-cons l (g .start k + j) 0 q, e, view-byte g l k j here) (ap (λ xs. getD l (g .start k + j) 0 ∷ xs) (part-values g n l k (j + 1) (λ i q. let d : j + 1 + i ≡ j + suc i = omega arith in rw d (f (suc i) (omega arith))) (omega arith)))

@@ -3,6 +3,8 @@ use mathlib.Core.Path.{_≡_, ap}
 use Prim.Native.Nat.{ℕ}
 use Rattle.layout.specs.declared.Name.{Name}
 use Rattle.layout.specs.declared.Found.{Found}
+use Rattle.layout.specs.declared.Served.{Served}
+use Rattle.layout.specs.Header.{servedStatus, servedSizes, TellsServed}
 use Rattle.layout.specs.Directory.{foundStatus, foundSlots, TellsFound}
 use Rattle.layout.specs.Names.{nameStatus, nameBytes, TellsName}
 
@@ -11,3 +13,6 @@ tells-name e = (e, ap nameStatus e, ap nameBytes e)
 
 pub tells-found : (one none : ℕ) {f r : Found} → r ≡ f → TellsFound one none f r
 tells-found one none e = (e, ap (foundStatus one none) e, ap foundSlots e)
+
+pub tells-served : {v r : Served} → r ≡ v → TellsServed v r
+tells-served e = (e, ap servedStatus e, ap servedSizes e)

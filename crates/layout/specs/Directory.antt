@@ -1,4 +1,4 @@
--- The directory: sectors 361 to 368, 64 slots of 16 bytes.
+-- The directory: the first 128 bytes of sectors 361 to 368, 64 slots of 16 bytes.
 use mathlib.Core.Bool.{Bool, true, false, not, _&&_, _||_}
 use mathlib.Core.List.{List, [], _∷_}
 use mathlib.Core.Path.{_≡_}

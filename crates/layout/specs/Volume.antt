@@ -1,11 +1,11 @@
--- The volume table: sector 360.
+-- The volume table: the first 128 bytes of sector 360.
 use mathlib.Core.Bool.{Bool, not, _&&_, _||_, Bool·beq}
 use mathlib.Core.List.{List, [], _∷_}
 use Prim.Native.Nat.{ℕ, suc, zero, _+_, _-_, _*_, _/_, _%_, _^_}
 use lib.Dec.{leb, ltb, eqb}
 use lib.Count.{onesIn}
 use lib.ListN.{length}
-use Rattle.layout.specs.Basics.{if, firstFrom, allBelow, countBelow}
+use Rattle.layout.specs.Basics.{if, update, firstFrom, allBelow, countBelow}
 use Rattle.layout.specs.Image.{Sector, Disk, put, word, putWord}
 
 -- data sectors are 4 to 359 and 369 to 719
@@ -122,3 +122,7 @@ freshVolume j =
 -- a formatted disk: all zero but a good table with 707 free
 unfoldable pub fresh : Disk
 fresh k = if (eqb k 360) freshVolume (λ j. 0)
+
+-- format keeps the header, which is sector 0
+unfoldable pub formatted : Disk → Disk
+formatted d = update fresh 0 (d 0)

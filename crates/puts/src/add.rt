@@ -1,58 +1,160 @@
 // Bytes added at a file's end, a sector's run at a time.
 use files::gives::give;
+use image::link::put_link;
 use image::link::put_used;
 use image::link::used;
+use image::slot::count;
+use image::slot::put_count;
+use layout::density::Density;
+use layout::density::Medium;
 use layout::status;
 use rules::Added;
 use runs::run::least;
+use runs::run::put_room;
 use runs::run::put_run;
 use volume::lowest::lowest_from;
+use volume::map::is_free;
+use volume::map::mark;
 ghost use mathlib.Core.Bool.{true};
 ghost use mathlib.Core.Path.{_≡_};
 ghost use Prim.Native.Nat.{_+_, _≤_, _<_};
 ghost use lib.ListN.{length};
-ghost use Rattle.layout.specs.Image.{single, view};
+ghost use Rattle.layout.specs.Image.{Whole, geometryOf, view};
 ghost use Rattle.layout.specs.Volume.{dataSector, good};
-ghost use Rattle.layout.specs.File.{used};
+ghost use Rattle.layout.specs.File.{used, give};
 ghost use Rattle.rules.specs.Put.{roomFor, putFrom};
-ghost use Rattle.puts.specs.Run.{addRun};
+ghost use Rattle.puts.specs.Run.{addRun, filled};
+ghost use Rattle.puts.specs.Come.{Puts};
 ghost use Rattle.puts.specs.Searched.{Searched, HasRoom};
 
-// A sector with room, or 0, and the map byte from which the next search goes on.
+// A sector with room, or 0, and the sector from which the next search goes on.
 struct Spot {
     sector: u16,
-    from: usize,
+    from: u16,
 }
 
 // The last sector while it has room, then the lowest free one, given out.
-fn room(image: &mut [u8], slot: u16, last: u16, from: usize) -> Spot
-    requires { ⌜ (length (now image) ≡ 92160) × (slot < 64) × (dataSector last ≡ true) × Searched (view single (now image) 360) from ⌝ }
-    ensures { λ r. ⌜ (r .sector ≡ roomFor single (view single (now (image .entry))) slot last .sector)
-        × (view single (now (image .exit)) ≡ roomFor single (view single (now (image .entry))) slot last .disk)
-        × HasRoom single (view single (now (image .exit))) (r .sector) × Searched (view single (now (image .exit)) 360) (r .from) ⌝ }
+fn room(m: Medium, image: &mut [u8], slot: u16, last: u16, from: u16) -> Spot
+    requires { ⌜ Whole m (now image) × (slot < 64) × (dataSector last ≡ true) × Searched (view (geometryOf m) (now image) 360) from ⌝ }
+    ensures { λ r. ⌜ (r .sector ≡ roomFor (geometryOf m) (view (geometryOf m) (now (image .entry))) slot last .sector)
+        × (view (geometryOf m) (now (image .exit)) ≡ roomFor (geometryOf m) (view (geometryOf m) (now (image .entry))) slot last .disk)
+        × HasRoom (geometryOf m) (view (geometryOf m) (now (image .exit))) (r .sector) × Searched (view (geometryOf m) (now (image .exit)) 360) (r .from) ⌝ }
 {
-    if used(image, last) < 125 {
+    let most = m.density.room;
+    if (used(m, image, last) as usize) < most {
         return Spot { sector: last, from };
     }
-    let k = lowest_from(image, from);
+    let k = lowest_from(m, image, from as usize / 8);
     if k == 0 {
         return Spot { sector: 0, from };
     }
-    give(image, slot, last, k);
+    give(m, image, slot, last, k);
     Spot {
         sector: k,
-        from: k as usize / 8,
+        from: k + 1,
     }
 }
 
 // Bytes more in a sector that has room for them.
-fn add_run(image: &mut [u8], sector: u16, bytes: &[u8])
-    requires { ⌜ (length (now image) ≡ 92160) × (1 ≤ sector) × (sector ≤ 720) × (used single (view single (now image) sector) + length (now bytes) ≤ 125) ⌝ }
-    ensures { λ _. ⌜ view single (now (image .exit)) ≡ addRun single (view single (now (image .entry))) sector (now (bytes .entry)) ⌝ }
+fn add_run(m: Medium, image: &mut [u8], sector: u16, bytes: &[u8])
+    requires { ⌜ Whole m (now image) × (4 ≤ sector) × (sector ≤ 720) × (used (geometryOf m) (view (geometryOf m) (now image) sector) + length (now bytes) ≤ m .density .room) ⌝ }
+    ensures { λ _. ⌜ view (geometryOf m) (now (image .exit)) ≡ addRun (geometryOf m) (view (geometryOf m) (now (image .entry))) sector (now (bytes .entry)) ⌝ }
 {
-    let n = used(image, sector) as usize;
-    put_run(image, sector, n, bytes);
-    put_used(image, sector, (n + bytes.len()) as u8);
+    let n = used(m, image, sector) as usize;
+    put_run(m, image, sector, n, bytes);
+    put_used(m, image, sector, (n + bytes.len()) as u8);
+}
+
+// A sector behind a full one: the link to it, its own last bytes, and as many data bytes as it can hold.
+fn fill(m: Medium, image: &mut [u8], slot: u16, prev: u16, sector: u16, bytes: &[u8])
+    requires { ⌜ Whole m (now image) × (slot < 64) × (4 ≤ prev) × (prev < 720) × (4 ≤ sector) × (sector < 720) × (length (now bytes) ≡ m .density .room) ⌝ }
+    ensures { λ _. ⌜ view (geometryOf m) (now (image .exit)) ≡ filled (geometryOf m) (view (geometryOf m) (now (image .entry))) slot prev sector (now (bytes .entry)) ⌝ }
+{
+    let room = m.density.room;
+    put_link(m, image, prev, slot, sector);
+    put_link(m, image, sector, slot, 0);
+    put_used(m, image, sector, room as u8);
+    put_room(m, image, sector, bytes);
+}
+
+// The same, with the numbers of single density as constants.
+fn fill_sector(m: Medium, image: &mut [u8], slot: u16, prev: u16, sector: u16, bytes: &[u8])
+    requires { ⌜ Whole m (now image) × (slot < 64) × (4 ≤ prev) × (prev < 720) × (4 ≤ sector) × (sector < 720) × (length (now bytes) ≡ m .density .room) ⌝ }
+    ensures { λ _. ⌜ view (geometryOf m) (now (image .exit)) ≡ filled (geometryOf m) (view (geometryOf m) (now (image .entry))) slot prev sector (now (bytes .entry)) ⌝ }
+{
+    let header = m.header;
+    if m.density.size == Density::SINGLE_SIZE {
+        let density = Density::single();
+        fill(Medium { header, density }, image, slot, prev, sector, bytes);
+    } else {
+        fill(m, image, slot, prev, sector, bytes);
+    }
+}
+
+// A sector given out behind a full one and filled.
+fn give_full(m: Medium, image: &mut [u8], slot: u16, prev: u16, sector: u16, bytes: &[u8])
+    requires { ⌜ Whole m (now image) × (slot < 64) × (4 ≤ prev) × (prev < 720) × (4 ≤ sector) × (sector < 720) × (length (now bytes) ≡ m .density .room) ⌝ }
+    ensures { λ _. ⌜ view (geometryOf m) (now (image .exit)) ≡ addRun (geometryOf m) (give (geometryOf m) (view (geometryOf m) (now (image .entry))) slot prev sector) sector (now (bytes .entry)) ⌝ }
+{
+    mark(m, image, sector);
+    let n = count(m, image, slot);
+    put_count(m, image, slot, n as u32 + 1);
+    fill_sector(m, image, slot, prev, sector, bytes);
+}
+
+// How far bytes have been added: the last sector, how many of them, and the sector from which the next search goes on.
+struct Reached {
+    sector: u16,
+    count: usize,
+    from: u16,
+}
+
+// It, from its parts.
+fn come_to(sector: u16, count: usize, from: u16) -> Reached
+    ensures { λ r. ⌜ r ≡ record { sector = sector; count = count; from = from } ⌝ }
+{
+    Reached {
+        sector,
+        count,
+        from,
+    }
+}
+
+// Full sectors added behind a full one that was given out last, as long as the sector after it on the disk is free: then that is the lowest, and no search waits for the map byte that the last
+// one changed.
+fn put_whole(
+    m: Medium,
+    image: &mut [u8],
+    slot: u16,
+    last: u16,
+    buffer: &[u8],
+    at: usize,
+    from: u16,
+) -> Reached
+    requires { ⌜ Whole m (now image) × (slot < 64) × (dataSector last ≡ true) × (at ≤ length (now buffer)) × Searched (view (geometryOf m) (now image) 360) from ⌝ }
+    ensures { λ r. ⌜ (dataSector (r .sector) ≡ true) × Searched (view (geometryOf m) (now (image .exit)) 360) (r .from)
+        × Puts (geometryOf m) slot (now (buffer .entry)) (view (geometryOf m) (now (image .entry))) last at (view (geometryOf m) (now (image .exit))) (r .sector) (r .count) ⌝ }
+{
+    let room = m.density.room;
+    let mut p = last;
+    let mut i = at;
+    if from != last + 1 {
+        return come_to(last, at, from);
+    }
+    if (used(m, image, last) as usize) < room {
+        return come_to(last, at, from);
+    }
+    while (p < 719) & (room <= buffer.len() - i) {
+        let k = p + 1;
+        if !is_free(m, image, k) {
+            return come_to(p, i, k);
+        }
+        let e = i + room;
+        give_full(m, image, slot, p, k, &buffer[i..e]);
+        p = k;
+        i = e;
+    }
+    come_to(p, i, p + 1)
 }
 
 // What adding bytes leaves.
@@ -67,27 +169,43 @@ fn added(status: u8, count: usize, last: u16) -> Added
 }
 
 // The bytes of the buffer added, as many as fit.
-pub fn put_from(image: &mut [u8], slot: u16, last: u16, buffer: &[u8]) -> Added
-    requires { ⌜ (length (now image) ≡ 92160) × (slot < 64) × (dataSector last ≡ true) × (good (view single (now image) 360) ≡ true) ⌝ }
-    ensures { λ r. ⌜ (r ≡ putFrom single (now (buffer .entry)) (view single (now (image .entry))) slot last 0 .added)
-        × (view single (now (image .exit)) ≡ putFrom single (now (buffer .entry)) (view single (now (image .entry))) slot last 0 .disk) ⌝ }
+fn put_from(m: Medium, image: &mut [u8], slot: u16, last: u16, buffer: &[u8]) -> Added
+    requires { ⌜ Whole m (now image) × (slot < 64) × (dataSector last ≡ true) × (good (view (geometryOf m) (now image) 360) ≡ true) ⌝ }
+    ensures { λ r. ⌜ (r ≡ putFrom (geometryOf m) (now (buffer .entry)) (view (geometryOf m) (now (image .entry))) slot last 0 .added)
+        × (view (geometryOf m) (now (image .exit)) ≡ putFrom (geometryOf m) (now (buffer .entry)) (view (geometryOf m) (now (image .entry))) slot last 0 .disk) ⌝ }
 {
+    let most = m.density.room;
     let mut p = last;
     let mut i: usize = 0;
-    let mut from: usize = 0;
+    let mut from: u16 = 0;
     while i < buffer.len() {
-        let spot = room(image, slot, p, from);
+        let spot = room(m, image, slot, p, from);
         let k = spot.sector;
         if k == 0 {
             return added(status::DISK_FULL, i, p);
         }
-        let n = used(image, k) as usize;
-        let m = least(125 - n, buffer.len() - i);
-        let e = i + m;
-        add_run(image, k, &buffer[i..e]);
-        from = spot.from;
-        p = k;
-        i = e;
+        let n = used(m, image, k) as usize;
+        let e = i + least(most - n, buffer.len() - i);
+        add_run(m, image, k, &buffer[i..e]);
+        let w = put_whole(m, image, slot, k, buffer, e, spot.from);
+        from = w.from;
+        p = w.sector;
+        i = w.count;
     }
     added(status::SUCCESS, i, p)
+}
+
+// The same. Few bytes mostly find room in the last sector: then there is no loop to prepare for.
+pub fn put_some(m: Medium, image: &mut [u8], slot: u16, last: u16, buffer: &[u8]) -> Added
+    requires { ⌜ Whole m (now image) × (slot < 64) × (dataSector last ≡ true) × (good (view (geometryOf m) (now image) 360) ≡ true) ⌝ }
+    ensures { λ r. ⌜ (r ≡ putFrom (geometryOf m) (now (buffer .entry)) (view (geometryOf m) (now (image .entry))) slot last 0 .added)
+        × (view (geometryOf m) (now (image .exit)) ≡ putFrom (geometryOf m) (now (buffer .entry)) (view (geometryOf m) (now (image .entry))) slot last 0 .disk) ⌝ }
+{
+    let room = m.density.room;
+    let n = buffer.len();
+    if used(m, image, last) as usize + n <= room {
+        add_run(m, image, last, buffer);
+        return added(status::SUCCESS, n, last);
+    }
+    put_from(m, image, slot, last, buffer)
 }

@@ -1,43 +1,43 @@
 // Put on one channel.
-use super::add::put_from;
+use super::add::put_some;
 use files::chain::fits;
 use image::link::next;
 use image::slot::count;
 use image::slot::flag;
 use layout::State;
+use layout::density::Medium;
 use layout::status;
 use rules::Advanced;
 use volume::table::table_good;
 ghost use mathlib.Core.Path.{_≡_};
-ghost use lib.ListN.{length};
-ghost use Rattle.layout.specs.Image.{single, view};
+ghost use Rattle.layout.specs.Image.{Whole, geometryOf, view};
 ghost use Rattle.layout.specs.declared.State.the-variants.{Writing};
 ghost use Rattle.rules.specs.Get.{advanced};
 ghost use Rattle.rules.specs.Put.{isOutput, writable, putOn};
 
 // The slot is open for output: $43. A slot above 63 counts as one that is not.
-pub fn is_output(image: &[u8], slot: u16) -> bool
-    requires { ⌜ length (now image) ≡ 92160 ⌝ }
-    ensures { λ r. ⌜ r ≡ isOutput (view single (now (image .entry))) slot ⌝ }
+pub fn is_output(m: Medium, image: &[u8], slot: u16) -> bool
+    requires { ⌜ Whole m (now image) ⌝ }
+    ensures { λ r. ⌜ r ≡ isOutput (view (geometryOf m) (now (image .entry))) slot ⌝ }
 {
     if 64 <= slot {
         return false;
     }
-    flag(image, slot) == 0x43
+    flag(m, image, slot) == 0x43
 }
 
 // So is it, with a count of at most 707, and its last sector fits and has next sector 0.
-fn writable(image: &[u8], slot: u16, last: u16) -> bool
-    requires { ⌜ length (now image) ≡ 92160 ⌝ }
-    ensures { λ r. ⌜ r ≡ writable single (view single (now (image .entry))) slot last ⌝ }
+fn writable(m: Medium, image: &[u8], slot: u16, last: u16) -> bool
+    requires { ⌜ Whole m (now image) ⌝ }
+    ensures { λ r. ⌜ r ≡ writable (geometryOf m) (view (geometryOf m) (now (image .entry))) slot last ⌝ }
 {
-    if !is_output(image, slot) {
+    if !is_output(m, image, slot) {
         return false;
     }
-    if !fits(image, slot, last) {
+    if !fits(m, image, slot, last) {
         return false;
     }
-    (count(image, slot) <= 707) & (next(image, last) == 0)
+    (count(m, image, slot) <= 707) & (next(m, image, last) == 0)
 }
 
 // An answer, with the writing channel after it.
@@ -52,29 +52,29 @@ fn writing(status: u8, count: usize, slot: u16, last: u16) -> Advanced
 }
 
 // Put on a writing channel.
-fn put_writing(image: &mut [u8], slot: u16, last: u16, buffer: &[u8]) -> Advanced
-    requires { ⌜ length (now image) ≡ 92160 ⌝ }
-    ensures { λ r. ⌜ (r ≡ putOn single (view single (now (image .entry))) (Writing slot last) (now (buffer .entry)) .answer)
-        × (view single (now (image .exit)) ≡ putOn single (view single (now (image .entry))) (Writing slot last) (now (buffer .entry)) .disk) ⌝ }
+fn put_writing(m: Medium, image: &mut [u8], slot: u16, last: u16, buffer: &[u8]) -> Advanced
+    requires { ⌜ Whole m (now image) ⌝ }
+    ensures { λ r. ⌜ (r ≡ putOn (geometryOf m) (view (geometryOf m) (now (image .entry))) (Writing slot last) (now (buffer .entry)) .answer)
+        × (view (geometryOf m) (now (image .exit)) ≡ putOn (geometryOf m) (view (geometryOf m) (now (image .entry))) (Writing slot last) (now (buffer .entry)) .disk) ⌝ }
 {
     if buffer.len() == 0 {
         return writing(status::SUCCESS, 0, slot, last);
     }
-    if !table_good(image) {
+    if !table_good(m, image) {
         return writing(status::BAD_TABLE, 0, slot, last);
     }
-    if !writable(image, slot, last) {
+    if !writable(m, image, slot, last) {
         return writing(status::BAD_CHAIN, 0, slot, last);
     }
-    let a = put_from(image, slot, last, buffer);
+    let a = put_some(m, image, slot, last, buffer);
     writing(a.status, a.count, slot, a.last)
 }
 
 // Put on one channel adds the lent bytes at the end.
-pub fn put_on(image: &mut [u8], st: State, buffer: &[u8]) -> Advanced
-    requires { ⌜ length (now image) ≡ 92160 ⌝ }
-    ensures { λ r. ⌜ (r ≡ putOn single (view single (now (image .entry))) st (now (buffer .entry)) .answer)
-        × (view single (now (image .exit)) ≡ putOn single (view single (now (image .entry))) st (now (buffer .entry)) .disk) ⌝ }
+pub fn put_on(m: Medium, image: &mut [u8], st: State, buffer: &[u8]) -> Advanced
+    requires { ⌜ Whole m (now image) ⌝ }
+    ensures { λ r. ⌜ (r ≡ putOn (geometryOf m) (view (geometryOf m) (now (image .entry))) st (now (buffer .entry)) .answer)
+        × (view (geometryOf m) (now (image .exit)) ≡ putOn (geometryOf m) (view (geometryOf m) (now (image .entry))) st (now (buffer .entry)) .disk) ⌝ }
 {
     match st {
         State::Closed => Advanced {
@@ -92,6 +92,6 @@ pub fn put_on(image: &mut [u8], st: State, buffer: &[u8]) -> Advanced
             count: 0,
             state: st,
         },
-        State::Writing { slot, last } => put_writing(image, slot, last, buffer),
+        State::Writing { slot, last } => put_writing(m, image, slot, last, buffer),
     }
 }

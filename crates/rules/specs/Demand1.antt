@@ -1,7 +1,7 @@
 -- Demand 1: every call ends with a status number. A refused call reports no bytes and changes nothing, but for the listed partial transfers.
 use mathlib.Core.Bool.{true, false}
 use mathlib.Core.List.{List, [], _∷_}
-use mathlib.Core.Logic.{_≢_}
+use mathlib.Core.Logic.{_≢_, _↔_, _⊎_}
 use mathlib.Core.Path.{_≡_}
 use Prim.Native.Nat.{ℕ, _+_, _/_, _≤_}
 use lib.Dec.{leb, ltb, eqb}
@@ -10,16 +10,20 @@ use Rattle.layout.specs.declared.State.{State}
 use Rattle.layout.specs.declared.State.the-variants.{Closed, Writing}
 use Rattle.layout.specs.declared.Table.{Table}
 use Rattle.layout.specs.declared.Channel.{Channel}
+use Rattle.layout.specs.declared.density.Medium.{Medium}
+use Rattle.layout.specs.declared.Served.the-variants.{As, Not}
 use Rattle.rules.specs.declared.Block.{Block}
 use Rattle.layout.specs.Basics.{check, member}
-use Rattle.layout.specs.Image.{Disk, single, view, imageOf}
+use Rattle.layout.specs.Image.{Disk, atrSingle, atrDouble, geometryOf, view}
+use Rattle.layout.specs.Header.{agrees, servedAs}
 use Rattle.layout.specs.Channels.{stateOf, withState}
-use Rattle.layout.specs.Status.{success, badImage, badChannel, badCommand, notServed, channelOpen, noChannel, channelClosed, writeOnly, readOnly, badDevice, badUnit, badName, badTable, notFound, fileLocked, fileHeld, badChain, nameTaken, noSlot, diskFull, endOfFile, lostChain, noDevice, badRequest, badLength}
-use Rattle.rules.specs.Cio.{Outcome, cioCall}
+use Rattle.layout.specs.Status.{success, badImage, badHeader, badChannel, badCommand, notServed, channelOpen, noChannel, channelClosed, writeOnly, readOnly, badDevice, badUnit, badName, badTable, notFound, fileLocked, fileHeld, badChain, nameTaken, noSlot, diskFull, endOfFile, lostChain, noDevice, badRequest, badLength}
+use Rattle.rules.specs.Cio.{ImageOutcome, cioCall}
 use Rattle.rules.specs.Recovery.{recoverCall}
 use Rattle.rules.specs.Sectors.{sectorCall}
 use Rattle.rules.specs.Showing.{shows}
 use Rattle.rules.specs.Thin.{thinGet, thinPut}
+use Rattle.rules.specs.WriteHeader.{headerCall}
 
 -- the status numbers that each command can answer, in the order of the table. An open for input
 abbrev pub readAnswers : List ℕ
@@ -93,23 +97,33 @@ recoveryAnswers = success ∷ notFound ∷ badTable ∷ badName ∷ nameTaken �
 abbrev pub sectorAnswers : List ℕ
 sectorAnswers = success ∷ noDevice ∷ badRequest ∷ badLength ∷ []
 
--- on image l, of 92,160 bytes, every call answers one of its numbers and no other
-pub record Answers (l : List ℕ) : Type 0 where
-  pub calls : (t : Table) (c : Block) (text b : List ℕ) → member (cioCall single l t c text b .effect .status) (answers c) ≡ true
-  pub recoveries : (s : ℕ) → member (recoverCall single l s .reply .status) recoveryAnswers ≡ true
-  pub sectors : (device unit command k : ℕ) (b : List ℕ) → member (sectorCall single l device unit command k b .reply .status) sectorAnswers ≡ true
-  pub thinGets : (c : Channel) (b : List ℕ) → member (thinGet single l c b .answer .status) getAnswers ≡ true
-  pub thinPuts : (c : Channel) (b : List ℕ) → member (thinPut single l c b .answer .status) putAnswers ≡ true
+-- those of the header's writer
+abbrev pub headerAnswers : List ℕ
+headerAnswers = success ∷ badImage ∷ []
 
--- on image l, of another length, 203 comes first: every call answers it, whatever else it was given
-pub record Unserved (l : List ℕ) : Type 0 where
-  pub calls : (t : Table) (c : Block) (text b : List ℕ) → cioCall single l t c text b .effect .status ≡ badImage
-  pub recoveries : (s : ℕ) → recoverCall single l s .reply .status ≡ badImage
-  pub sectors : (device unit command k : ℕ) (b : List ℕ) → sectorCall single l device unit command k b .reply .status ≡ badImage
-  pub thinGets : (c : Channel) (b : List ℕ) → thinGet single l c b .answer .status ≡ badImage
-  pub thinPuts : (c : Channel) (b : List ℕ) → thinPut single l c b .answer .status ≡ badImage
+-- on image l, which is served, every call answers one of its numbers and no other
+pub record Answers (l : List ℕ) : Type 0 where
+  pub calls : (t : Table) (c : Block) (text b : List ℕ) → member (cioCall l t c text b .answer .status) (answers c) ≡ true
+  pub recoveries : (s : ℕ) → member (recoverCall l s .reply .status) recoveryAnswers ≡ true
+  pub sectors : (device unit command k : ℕ) (b : List ℕ) → member (sectorCall l device unit command k b .reply .status) sectorAnswers ≡ true
+  pub thinGets : (c : Channel) (b : List ℕ) → member (thinGet l c b .answer .status) getAnswers ≡ true
+  pub thinPuts : (c : Channel) (b : List ℕ) → member (thinPut l c b .answer .status) putAnswers ≡ true
+
+-- on image l, which is not served, 203 or 205 comes first: each of these calls answers it, whatever else it was given
+pub record Unserved (l : List ℕ) (n : ℕ) : Type 0 where
+  pub calls : (t : Table) (c : Block) (text b : List ℕ) → cioCall l t c text b .answer .status ≡ n
+  pub recoveries : (s : ℕ) → recoverCall l s .reply .status ≡ n
+  pub sectors : (device unit command k : ℕ) (b : List ℕ) → sectorCall l device unit command k b .reply .status ≡ n
+  pub thinGets : (c : Channel) (b : List ℕ) → thinGet l c b .answer .status ≡ n
+  pub thinPuts : (c : Channel) (b : List ℕ) → thinPut l c b .answer .status ≡ n
   -- showing answers no
-  pub shown : (s k : ℕ) → shows single l s k ≡ false
+  pub shown : (s k : ℕ) → shows l s k ≡ false
+
+-- why an image is not served: 203 for any length but those of a raw image and of the two ATR files, 205 for an ATR file whose header does not agree
+pub record Reasons (l : List ℕ) : Type 0 where
+  pub lengths : (servedAs l ≡ Not badImage) ↔ (member (length l) (92160 ∷ 92176 ∷ 183952 ∷ []) ≡ false)
+  pub headers : (servedAs l ≡ Not badHeader) ↔ ((m : Medium) × ((m ≡ atrSingle) ⊎ (m ≡ atrDouble)) × (length l ≡ geometryOf m .total) × (agrees m l ≡ false))
+  pub only : (n : ℕ) → servedAs l ≡ Not n → (n ≡ badImage) ⊎ (n ≡ badHeader)
 
 -- the partial transfers: get with 136 (file ended) or 164, put with 162; close frees its channel even with 164
 unfoldable pub partials : ℕ → List ℕ
@@ -124,25 +138,23 @@ pub record Refusal (command status : ℕ) : Type 0 where
   pub failed : status ≢ success
   pub whole : member status (partials command) ≡ false
 
--- a call on image l left it as it was: the image that holds the disk after the call is l, byte for byte
-abbrev pub ImageKept : List ℕ → Disk → Type 0
-ImageKept l d = imageOf single (length l) d ≡ l
-
 -- no bytes reported; image, channels and buffer are what went in
-pub record Unchanged (l : List ℕ) (t : Table) (b : List ℕ) (o : Outcome) : Type 0 where
-  pub count : o .effect .count ≡ 0
-  pub image : ImageKept l (o .effect .disk)
-  pub table : o .effect .table ≡ t
+pub record Unchanged (l : List ℕ) (t : Table) (b : List ℕ) (o : ImageOutcome) : Type 0 where
+  pub count : o .answer .count ≡ 0
+  pub image : o .image ≡ l
+  pub table : o .answer .table ≡ t
   pub buffer : o .buffer ≡ b
 
 -- a refused call reports no bytes and changes nothing
 pub record Refusals : Type 0 where
-  pub calls : (l : List ℕ) (t : Table) (c : Block) (text b : List ℕ) → let o = cioCall single l t c text b in Refusal (c .command) (o .effect .status) → Unchanged l t b o
-  pub recoveries : (l : List ℕ) (s : ℕ) → let r = recoverCall single l s in r .reply .status ≢ success → (r .reply .count ≡ 0) × ImageKept l (r .disk)
-  pub sectors : (l : List ℕ) (device unit command k : ℕ) (b : List ℕ) → let o = sectorCall single l device unit command k b in o .reply .status ≢ success → (o .reply .count ≡ 0) × ImageKept l (o .disk) × (o .buffer ≡ b)
+  pub calls : (l : List ℕ) (t : Table) (c : Block) (text b : List ℕ) → let o = cioCall l t c text b in Refusal (c .command) (o .answer .status) → Unchanged l t b o
+  pub recoveries : (l : List ℕ) (s : ℕ) → let r = recoverCall l s in r .reply .status ≢ success → (r .reply .count ≡ 0) × (r .image ≡ l)
+  pub sectors : (l : List ℕ) (device unit command k : ℕ) (b : List ℕ) → let o = sectorCall l device unit command k b in o .reply .status ≢ success → (o .reply .count ≡ 0) × (o .image ≡ l) × (o .buffer ≡ b)
   -- a thin call on one lent record
-  pub thinGets : (l : List ℕ) (c : Channel) (b : List ℕ) → let o = thinGet single l c b in Refusal 7 (o .answer .status) → (o .answer .count ≡ 0) × (o .answer .state ≡ c .state) × (o .buffer ≡ b)
-  pub thinPuts : (l : List ℕ) (c : Channel) (b : List ℕ) → let o = thinPut single l c b in Refusal 11 (o .answer .status) → (o .answer .count ≡ 0) × (o .answer .state ≡ c .state) × ImageKept l (o .disk)
+  pub thinGets : (l : List ℕ) (c : Channel) (b : List ℕ) → let o = thinGet l c b in Refusal 7 (o .answer .status) → (o .answer .count ≡ 0) × (o .answer .state ≡ c .state) × (o .buffer ≡ b)
+  pub thinPuts : (l : List ℕ) (c : Channel) (b : List ℕ) → let o = thinPut l c b in Refusal 11 (o .answer .status) → (o .answer .count ≡ 0) × (o .answer .state ≡ c .state) × (o .image ≡ l)
+  -- the header's writer
+  pub headers : (l : List ℕ) → let o = headerCall l in o .reply .status ≢ success → (o .reply .count ≡ 0) × (o .image ≡ l)
 
 -- of n bytes reported and the buffer after them: no more than were lent, and the rest of the buffer is left
 pub record Moved (n : ℕ) (after b : List ℕ) : Type 0 where
@@ -157,22 +169,28 @@ OnlyChannel t i u = (st : State) × (u ≡ withState t i st)
 abbrev pub OnlyEnd : State → Disk → Disk → List ℕ → Type 0
 OnlyEnd st d e given = (s p : ℕ) → st ≡ Writing s p → (k : ℕ) → k ≢ 360 → k ≢ 361 + s / 8 → k ≢ p → member k given ≡ false → e k ≡ d k
 
+-- the same of the disks that two images hold, as whichever medium the first is served; the header is sector 0
+abbrev pub OnlyEndOn : State → List ℕ → List ℕ → List ℕ → Type 0
+OnlyEndOn st l after given = (m : Medium) → servedAs l ≡ As m → let g = geometryOf m in OnlyEnd st (view g l) (view g after) given
+
 -- what a partial transfer leaves, as every get, put and close does
 pub record Transfers : Type 0 where
   -- a get leaves the image, the rest of the buffer and the other channels
   pub gets : (l : List ℕ) (t : Table) (c : Block) (text b : List ℕ) → c .command ≡ 7
-      → let o = cioCall single l t c text b in ImageKept l (o .effect .disk) × Moved (o .effect .count) (o .buffer) b × OnlyChannel t (c .channel) (o .effect .table)
-  pub thinGets : (l : List ℕ) (c : Channel) (b : List ℕ) → let o = thinGet single l c b in Moved (o .answer .count) (o .buffer) b
+      → let o = cioCall l t c text b in (o .image ≡ l) × Moved (o .answer .count) (o .buffer) b × OnlyChannel t (c .channel) (o .answer .table)
+  pub thinGets : (l : List ℕ) (c : Channel) (b : List ℕ) → let o = thinGet l c b in Moved (o .answer .count) (o .buffer) b
   -- a put leaves the buffer, the other channels and all of the disk but the file's end
   pub puts : (l : List ℕ) (t : Table) (c : Block) (text b : List ℕ) → c .command ≡ 11
-      → let o = cioCall single l t c text b in (o .effect .count ≤ length b) × (o .buffer ≡ b) × OnlyChannel t (c .channel) (o .effect .table) × OnlyEnd (stateOf t (c .channel)) (view single l) (o .effect .disk) (o .effect .given)
-  pub thinPuts : (l : List ℕ) (c : Channel) (b : List ℕ) → let o = thinPut single l c b in (o .answer .count ≤ length b) × OnlyEnd (c .state) (view single l) (o .disk) (o .given)
+      → let o = cioCall l t c text b in (o .answer .count ≤ length b) × (o .buffer ≡ b) × OnlyChannel t (c .channel) (o .answer .table) × OnlyEndOn (stateOf t (c .channel)) l (o .image) (o .given)
+  pub thinPuts : (l : List ℕ) (c : Channel) (b : List ℕ) → let o = thinPut l c b in (o .answer .count ≤ length b) × OnlyEndOn (c .state) l (o .image) (o .given)
   -- a close with 164 frees its channel, and changes nothing else
-  pub closes : (l : List ℕ) (t : Table) (c : Block) (text b : List ℕ) → c .command ≡ 12 → let o = cioCall single l t c text b in o .effect .status ≡ badChain → Unchanged l (withState t (c .channel) Closed) b o
+  pub closes : (l : List ℕ) (t : Table) (c : Block) (text b : List ℕ) → c .command ≡ 12 → let o = cioCall l t c text b in o .answer .status ≡ badChain → Unchanged l (withState t (c .channel) Closed) b o
 
 -- demand 1: any image of any length, any channels, command block, name, buffer, slot and channel record
 pub record Demand1 : Type 0 where
-  pub answers : (l : List ℕ) → length l ≡ 92160 → Answers l
-  pub unserved : (l : List ℕ) → length l ≢ 92160 → Unserved l
+  pub answers : (l : List ℕ) (m : Medium) → servedAs l ≡ As m → Answers l
+  pub unserved : (l : List ℕ) (n : ℕ) → servedAs l ≡ Not n → Unserved l n
+  pub reasons : (l : List ℕ) → Reasons l
+  pub headers : (l : List ℕ) → member (headerCall l .reply .status) headerAnswers ≡ true
   pub refusals : Refusals
   pub transfers : Transfers

@@ -11,9 +11,10 @@ use Rattle.layout.specs.declared.Table.{Table}
 use Rattle.layout.specs.declared.Name.{Name}
 use Rattle.layout.specs.declared.Name.the-variants.{Is}
 use Rattle.layout.specs.declared.Found.the-variants.{At}
+use Rattle.layout.specs.declared.density.Medium.{Medium}
 use Rattle.rules.specs.declared.Block.{Block}
 use Rattle.layout.specs.Basics.{if}
-use Rattle.layout.specs.Image.{Disk, Geometry, single}
+use Rattle.layout.specs.Image.{Disk, Geometry, geometryOf}
 use Rattle.layout.specs.Directory.{flag, count, find}
 use Rattle.layout.specs.File.{file}
 use Rattle.layout.specs.Channels.{stateOf, openAt}
@@ -193,6 +194,6 @@ module _ (g : Geometry) where
   abbrev pub DiskDemand2 : Type 0
   DiskDemand2 = (x : System) → Sound g (x .disk) (x .table) → Demand2 (disks g) x
 
--- on any image of 92,160 bytes whose disk is sound
+-- on any image that is served, as any medium, and whose disk is sound
 abbrev pub ImageDemand2 : Type 0
-ImageDemand2 = (x : ImageTable) → SoundImage x → Demand2 single images x
+ImageDemand2 = (m : Medium) (x : ImageTable) → SoundImage m x → let g = geometryOf m in Demand2 g (images g) x

@@ -4,13 +4,16 @@ use mathlib.Core.Path.{_≡_}
 use Prim.Native.Nat.{ℕ}
 use lib.ListN.{length}
 use Rattle.layout.specs.declared.Table.{Table}
+use Rattle.layout.specs.declared.density.Medium.{Medium}
+use Rattle.layout.specs.declared.Served.the-variants.{As}
 use Rattle.layout.specs.declared.Found.the-variants.{Nothing}
 use Rattle.rules.specs.declared.Block.{Block}
-use Rattle.layout.specs.Image.{Disk, Geometry, single, view, imageOf}
+use Rattle.layout.specs.Image.{Disk, Geometry, geometryOf, view}
+use Rattle.layout.specs.Header.{servedAs}
 use Rattle.layout.specs.Status.{success}
 use Rattle.rules.specs.Commands.{Effect}
-use Rattle.rules.specs.Cio.{Outcome, outcome, cio, cioCall}
-use Rattle.rules.specs.Recovery.{Recovered, recover, recoverCall}
+use Rattle.rules.specs.Cio.{Outcome, outcome, ImageOutcome, cio, cioCall}
+use Rattle.rules.specs.Recovery.{Recovered, ImageRecovered, recover, recoverCall}
 use Rattle.rules.specs.Sound.{Sound}
 
 -- CIO calls, with any command, channel, direction, name and buffer, and recoveries of any slot
@@ -73,34 +76,44 @@ pub record ImageTable : Type 0 where
   pub image : List ℕ
   pub table : Table
 
--- the disk that the image holds, with the channels
-abbrev pub systemOf : ImageTable → System
-systemOf x = record { disk = view single (x .image); table = x .table }
+-- a recovery on an image leaves the channels, gives out nothing and takes no slot for a new file
+abbrev pub recoveringOn : ImageRecovered → Table → ImageOutcome
+recoveringOn r t = record { answer = record { status = r .reply .status; count = r .reply .count; table = t }; image = r .image; buffer = []; given = []; took = Nothing }
 
 -- a call on an image, as the contracts of the two functions have it
-unfoldable pub outcomeOn : Call → ImageTable → Outcome
-outcomeOn (cioOf c text b) x = cioCall single (x .image) (x .table) c text b
-outcomeOn (recoveryOf s) x = outcome (recovering (recoverCall single (x .image) s) (x .table)) []
+unfoldable pub outcomeOn : Call → ImageTable → ImageOutcome
+outcomeOn (cioOf c text b) x = cioCall (x .image) (x .table) c text b
+outcomeOn (recoveryOf s) x = recoveringOn (recoverCall (x .image) s) (x .table)
 
--- what it leaves for the next: the image is as long as it was, and holds the disk after the call
-abbrev pub afterOn : ImageTable → Effect → ImageTable
-afterOn x e = record { image = imageOf single (length (x .image)) (e .disk); table = e .table }
+-- what it leaves for the next
+abbrev pub afterOn : ImageOutcome → ImageTable
+afterOn o = record { image = o .image; table = o .answer .table }
 
--- its outcome, with the disk read from the image that it left
-abbrev pub leftOn : ImageTable → Outcome → Outcome
-leftOn x o = let e = o .effect in outcome (record { status = e .status; count = e .count; disk = view single (afterOn x e .image); table = e .table; given = e .given; took = e .took }) (o .buffer)
+module _ (g : Geometry) where
+  -- the disk that the image holds, with the channels
+  abbrev pub systemOf : ImageTable → System
+  systemOf x = record { disk = view g (x .image); table = x .table }
 
--- calls on images
-abbrev pub images : Machine ImageTable
-images = record { system = systemOf; outcome = λ c x. leftOn x (outcomeOn c x); next = λ c x. afterOn x (outcomeOn c x .effect) }
+  -- a call's outcome, with the disk read from the image that it left
+  abbrev pub leftOn : ImageOutcome → Outcome
+  leftOn o = outcome (record { status = o .answer .status; count = o .answer .count; disk = view g (o .image); table = o .answer .table; given = o .given; took = o .took }) (o .buffer)
 
--- an image of 92,160 bytes whose disk with its channels is sound
-pub record SoundImage (x : ImageTable) : Type 0 where
-  pub whole : length (x .image) ≡ 92160
-  pub sound : Sound single (view single (x .image)) (x .table)
+  -- calls on images, whose disks are read by this geometry
+  abbrev pub images : Machine ImageTable
+  images = record { system = systemOf; outcome = λ c x. leftOn (outcomeOn c x); next = λ c x. afterOn (outcomeOn c x) }
 
--- any list of calls on such an image leaves such an image; a format that answers 1 makes one of any image of that length
-pub record ImageSound : Type 0 where
-  pub calls : (x : ImageTable) → SoundImage x → (cs : List Call) → SoundImage (run images cs x)
-  pub formats : (x : ImageTable) → length (x .image) ≡ 92160 → length (x .table .channels) ≡ 8 → (c : Block) (text b : List ℕ) → c .command ≡ 254
-      → let call = cioOf c text b in images .outcome call x .effect .status ≡ success → SoundImage (images .next call x)
+-- an image that is served as this medium
+abbrev pub IsServed : Medium → ImageTable → Type 0
+IsServed m x = servedAs (x .image) ≡ As m
+
+-- and whose disk with its channels is sound
+pub record SoundImage (m : Medium) (x : ImageTable) : Type 0 where
+  pub served : IsServed m x
+  pub sound : let g = geometryOf m in Sound g (view g (x .image)) (x .table)
+
+-- of every medium: any list of calls leaves an image that is served as it was, and a sound one where it was sound; a format that answers 1 makes a sound one of any that is served
+pub record ImageSound (m : Medium) : Type 0 where
+  pub kept : (x : ImageTable) → IsServed m x → (cs : List Call) → IsServed m (run (images (geometryOf m)) cs x)
+  pub calls : (x : ImageTable) → SoundImage m x → (cs : List Call) → SoundImage m (run (images (geometryOf m)) cs x)
+  pub formats : (x : ImageTable) → IsServed m x → length (x .table .channels) ≡ 8 → (c : Block) (text b : List ℕ) → c .command ≡ 254
+      → let call = cioOf c text b in outcomeOn call x .answer .status ≡ success → SoundImage m (afterOn (outcomeOn call x))

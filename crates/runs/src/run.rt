@@ -1,29 +1,66 @@
 // A run of a sector's bytes, written and read.
 use super::copy::copy;
+use super::copy::copy_counted;
+use image::bytes::start;
+use layout::density::Medium;
 ghost use mathlib.Core.Path.{_≡_};
 ghost use Prim.Native.Nat.{_+_, _≤_, _<_};
 ghost use lib.ListN.{length};
 ghost use lib.Seq.{sets};
 ghost use Rattle.layout.specs.Basics.{valuesFrom};
-ghost use Rattle.layout.specs.Image.{single, view, putRun};
+ghost use Rattle.layout.specs.Image.{Whole, geometryOf, view, putRun};
 
 // The bytes of `from` written to a sector, from `place` on.
-pub fn put_run(image: &mut [u8], sector: u16, place: usize, from: &[u8])
-    requires { ⌜ (length (now image) ≡ 92160) × (1 ≤ sector) × (sector ≤ 720) × (place + length (now from) ≤ 128) ⌝ }
-    ensures { λ _. ⌜ view single (now (image .exit)) ≡ putRun (view single (now (image .entry))) sector place (now (from .entry)) ⌝ }
+pub fn put_run(m: Medium, image: &mut [u8], sector: u16, place: usize, from: &[u8])
+    requires { ⌜ Whole m (now image) × (4 ≤ sector) × (sector ≤ 720) × (place + length (now from) ≤ geometryOf m .size sector) ⌝ }
+    ensures { λ _. ⌜ view (geometryOf m) (now (image .exit)) ≡ putRun (view (geometryOf m) (now (image .entry))) sector place (now (from .entry)) ⌝ }
 {
-    let start = (sector as usize - 1) * 128 + place;
-    copy(image, start, from);
+    let first = start(m, sector) + place;
+    copy(image, first, from);
 }
 
-// Bytes of a sector, `n` of them from `place` on, stored in the buffer from `at` on.
-pub fn get_run(image: &[u8], sector: u16, place: usize, n: usize, buffer: &mut [u8], at: usize)
-    requires { ⌜ (length (now image) ≡ 92160) × (1 ≤ sector) × (sector ≤ 720) × (place + n ≤ 128) × (at + n ≤ length (now buffer)) ⌝ }
-    ensures { λ _. ⌜ now (buffer .exit) ≡ sets (now (buffer .entry)) at (valuesFrom (view single (now (image .entry)) sector) n place) ⌝ }
+// All data bytes of a sector written.
+pub fn put_room(m: Medium, image: &mut [u8], sector: u16, from: &[u8])
+    requires { ⌜ Whole m (now image) × (4 ≤ sector) × (sector ≤ 720) × (length (now from) ≡ m .density .room) ⌝ }
+    ensures { λ _. ⌜ view (geometryOf m) (now (image .exit)) ≡ putRun (view (geometryOf m) (now (image .entry))) sector 0 (now (from .entry)) ⌝ }
 {
-    let start = (sector as usize - 1) * 128 + place;
-    let end = start + n;
-    copy(buffer, at, &image[start..end]);
+    let room = m.density.room;
+    copy_counted(image, start(m, sector), from, room);
+}
+
+// Bytes of the sector that starts at `start`, `n` of them from `place` on, stored in the buffer from `at` on.
+pub fn get_run_at(
+    m: Medium,
+    image: &[u8],
+    sector: u16,
+    start: usize,
+    place: usize,
+    n: usize,
+    buffer: &mut [u8],
+    at: usize,
+)
+    requires { ⌜ Whole m (now image) × (4 ≤ sector) × (sector ≤ 720) × (start ≡ geometryOf m .start sector) × (place + n ≤ geometryOf m .size sector) × (at + n ≤ length (now buffer)) ⌝ }
+    ensures { λ _. ⌜ now (buffer .exit) ≡ sets (now (buffer .entry)) at (valuesFrom (view (geometryOf m) (now (image .entry)) sector) n place) ⌝ }
+{
+    let first = start + place;
+    let end = first + n;
+    copy(buffer, at, &image[first..end]);
+}
+
+// The same of a sector found by its number.
+pub fn get_run(
+    m: Medium,
+    image: &[u8],
+    sector: u16,
+    place: usize,
+    n: usize,
+    buffer: &mut [u8],
+    at: usize,
+)
+    requires { ⌜ Whole m (now image) × (4 ≤ sector) × (sector ≤ 720) × (place + n ≤ geometryOf m .size sector) × (at + n ≤ length (now buffer)) ⌝ }
+    ensures { λ _. ⌜ now (buffer .exit) ≡ sets (now (buffer .entry)) at (valuesFrom (view (geometryOf m) (now (image .entry)) sector) n place) ⌝ }
+{
+    get_run_at(m, image, sector, start(m, sector), place, n, buffer, at);
 }
 
 // The lesser of two numbers: a run ends where the sector's bytes or the buffer's do.

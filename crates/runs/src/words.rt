@@ -1,8 +1,11 @@
 // Eight bytes, or three, as one number: written as a sum, they are one load.
+use image::bytes::start;
+use image::slot::slot_start;
+use layout::density::Medium;
 ghost use mathlib.Core.Path.{_≡_};
-ghost use Prim.Native.Nat.{_+_, _*_, _≤_, _<_};
+ghost use Prim.Native.Nat.{_+_, _*_, _/_, _%_, _≤_, _<_};
 ghost use lib.ListN.{length, getD};
-ghost use Rattle.layout.specs.Image.{single, view};
+ghost use Rattle.layout.specs.Image.{Whole, geometryOf, view};
 ghost use Rattle.layout.specs.Directory.{name};
 ghost use Rattle.layout.specs.Names.{packed};
 ghost use Rattle.runs.specs.Words.{bytesFrom, mapFrom, extension};
@@ -45,26 +48,42 @@ fn word8(s: &[u8], i: usize) -> u64
         + 72057594037927936 * wide_at(s, i + 7)
 }
 
-// The eight name bytes of a slot.
-pub fn name_word(image: &[u8], slot: u16) -> u64
-    requires { ⌜ (length (now image) ≡ 92160) × (slot < 64) ⌝ }
-    ensures { λ r. ⌜ r ≡ packed (name (view single (now (image .entry))) slot) 8 ⌝ }
+// The eight name bytes of the slot that starts at `at`.
+pub fn name_word_at(m: Medium, image: &[u8], slot: u16, at: usize) -> u64
+    requires { ⌜ Whole m (now image) × (slot < 64) × (at ≡ geometryOf m .start (361 + slot / 8) + slot % 8 * 16) ⌝ }
+    ensures { λ r. ⌜ r ≡ packed (name (view (geometryOf m) (now (image .entry))) slot) 8 ⌝ }
 {
-    word8(image, 46085 + 16 * slot as usize)
+    word8(image, at + 5)
 }
 
 // The three bytes of its extension.
-pub fn extension_word(image: &[u8], slot: u16) -> u64
-    requires { ⌜ (length (now image) ≡ 92160) × (slot < 64) ⌝ }
-    ensures { λ r. ⌜ r ≡ packed (extension (view single (now (image .entry))) slot) 3 ⌝ }
+pub fn extension_word_at(m: Medium, image: &[u8], slot: u16, at: usize) -> u64
+    requires { ⌜ Whole m (now image) × (slot < 64) × (at ≡ geometryOf m .start (361 + slot / 8) + slot % 8 * 16) ⌝ }
+    ensures { λ r. ⌜ r ≡ packed (extension (view (geometryOf m) (now (image .entry))) slot) 3 ⌝ }
 {
-    word3(image, 46093 + 16 * slot as usize)
+    word3(image, at + 13)
+}
+
+// The eight name bytes of a slot.
+pub fn name_word(m: Medium, image: &[u8], slot: u16) -> u64
+    requires { ⌜ Whole m (now image) × (slot < 64) ⌝ }
+    ensures { λ r. ⌜ r ≡ packed (name (view (geometryOf m) (now (image .entry))) slot) 8 ⌝ }
+{
+    name_word_at(m, image, slot, slot_start(m, slot))
+}
+
+// The three bytes of its extension.
+pub fn extension_word(m: Medium, image: &[u8], slot: u16) -> u64
+    requires { ⌜ Whole m (now image) × (slot < 64) ⌝ }
+    ensures { λ r. ⌜ r ≡ packed (extension (view (geometryOf m) (now (image .entry))) slot) 3 ⌝ }
+{
+    extension_word_at(m, image, slot, slot_start(m, slot))
 }
 
 // Eight map bytes, from byte i of the map on.
-pub fn map_word(image: &[u8], i: usize) -> u64
-    requires { ⌜ (length (now image) ≡ 92160) × (i ≤ 82) ⌝ }
-    ensures { λ r. ⌜ r ≡ packed (mapFrom (view single (now (image .entry)) 360) i) 8 ⌝ }
+pub fn map_word(m: Medium, image: &[u8], i: usize) -> u64
+    requires { ⌜ Whole m (now image) × (i ≤ 82) ⌝ }
+    ensures { λ r. ⌜ r ≡ packed (mapFrom (view (geometryOf m) (now (image .entry)) 360) i) 8 ⌝ }
 {
-    word8(image, 45962 + i)
+    word8(image, start(m, 360) + (10 + i))
 }

@@ -1,48 +1,69 @@
 // Showing: the bytes in use of one sector, as that part of the lent image.
 use files::chain::fits;
+use image::bytes::start;
 use image::link::used;
+use layout::Served;
+use layout::density::Medium;
+use media::served_as;
 ghost use mathlib.Core.Path.{_≡_};
 ghost use Prim.Native.Nat.{_+_};
-ghost use Rattle.layout.specs.Image.{single};
-ghost use Rattle.rules.specs.Showing.{shows, shownStart, shownLength, shownPart};
+ghost use Rattle.layout.specs.Image.{Whole, geometryOf};
+ghost use Rattle.rules.specs.Showing.{enters, shows, shownStart, shownLength, shownPart};
 
 // Yes or no: a get, with sectors left, could enter the sector for the named slot.
-pub fn shows(image: &[u8], slot: u16, sector: u16) -> bool
-    ensures { λ r. ⌜ r ≡ shows single (now (image .entry)) slot sector ⌝ }
+pub fn enters(m: Medium, image: &[u8], slot: u16, sector: u16) -> bool
+    requires { ⌜ Whole m (now image) ⌝ }
+    ensures { λ r. ⌜ r ≡ enters (geometryOf m) (now (image .entry)) slot sector ⌝ }
 {
-    if image.len() != 92160 {
-        return false;
-    }
     if 64 <= slot {
         return false;
     }
-    fits(image, slot, sector)
+    fits(m, image, slot, sector)
+}
+
+// The same of any image.
+pub fn shows(image: &[u8], slot: u16, sector: u16) -> bool
+    ensures { λ r. ⌜ r ≡ shows (now (image .entry)) slot sector ⌝ }
+{
+    let v = served_as(image);
+    let Served::As(m) = v else {
+        return false;
+    };
+    enters(m, image, slot, sector)
 }
 
 // Where the part starts.
 pub fn shown_start(image: &[u8], slot: u16, sector: u16) -> usize
-    ensures { λ r. ⌜ r ≡ shownStart single (now (image .entry)) slot sector ⌝ }
+    ensures { λ r. ⌜ r ≡ shownStart (now (image .entry)) slot sector ⌝ }
 {
-    if !shows(image, slot, sector) {
+    let v = served_as(image);
+    let Served::As(m) = v else {
+        return 0;
+    };
+    if !enters(m, image, slot, sector) {
         return 0;
     }
-    (sector as usize - 1) * 128
+    start(m, sector)
 }
 
 // Its length.
 pub fn shown_length(image: &[u8], slot: u16, sector: u16) -> usize
-    ensures { λ r. ⌜ r ≡ shownLength single (now (image .entry)) slot sector ⌝ }
+    ensures { λ r. ⌜ r ≡ shownLength (now (image .entry)) slot sector ⌝ }
 {
-    if !shows(image, slot, sector) {
+    let v = served_as(image);
+    let Served::As(m) = v else {
+        return 0;
+    };
+    if !enters(m, image, slot, sector) {
         return 0;
     }
-    used(image, sector) as usize
+    used(m, image, sector) as usize
 }
 
 // The part itself, an empty one at the image's start where the answer is no. No copy: it lies in the same memory as the image (`ptr .0`), `shownStart` bytes behind the image's own place there (`ptr .1`).
 pub fn shown(image: &[u8], slot: u16, sector: u16) -> &[u8]
     ensures { λ r. ⌜ (let l = now (image .entry) in
-        (now r ≡ shownPart single l slot sector) × (r .ptr .0 ≡ image .entry .ptr .0) × (r .ptr .1 ≡ image .entry .ptr .1 + shownStart single l slot sector)) ⌝ }
+        (now r ≡ shownPart l slot sector) × (r .ptr .0 ≡ image .entry .ptr .0) × (r .ptr .1 ≡ image .entry .ptr .1 + shownStart l slot sector)) ⌝ }
 {
     if !shows(image, slot, sector) {
         return &image[0..0];

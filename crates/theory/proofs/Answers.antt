@@ -11,12 +11,15 @@ use Rattle.layout.specs.declared.State.the-variants.{Closed, Reading, Writing}
 use Rattle.layout.specs.declared.Name.{Name}
 use Rattle.layout.specs.declared.Name.the-variants.{Is, Refused}
 use Rattle.layout.specs.declared.Table.{Table}
+use Rattle.layout.specs.declared.density.Medium.{Medium}
+use Rattle.layout.specs.declared.Served.the-variants.{As}
 use Rattle.rules.specs.declared.Block.{Block}
 use Rattle.rules.specs.declared.Place.{Place}
 use Rattle.rules.specs.declared.Seek.{Seek}
 use Rattle.rules.specs.declared.Seek.the-variants.{Ready, Ended, Broken}
 use Rattle.layout.specs.Basics.{if, check, member}
-use Rattle.layout.specs.Image.{Disk, Geometry, single, view}
+use Rattle.layout.specs.Image.{Disk, Geometry, geometryOf, view}
+use Rattle.layout.specs.Header.{servedAs}
 use Rattle.layout.specs.Channels.{stateOf}
 use Rattle.layout.specs.Names.{ending, comma, body, wholeEnd, wellFormed, nameAt, readAs, readName, oldName, newName, readDevice}
 use Rattle.layout.specs.Status.{success, notServed, channelOpen, noChannel, badDevice, badUnit, badName, endOfFile, badChain, diskFull}
@@ -27,7 +30,8 @@ use Rattle.rules.specs.Commands.{Effect, putAt, openRead, openFound, openNew, o
 use Rattle.rules.specs.Cio.{Outcome, getAt, command, cio}
 use Rattle.rules.specs.Recovery.{Recovered, recover}
 use Rattle.rules.specs.Sectors.{SectorOutcome, sector}
-use Rattle.rules.specs.Demand1.{readAnswers, writeAnswers, openAnswers, getAnswers, putAnswers, statusAnswers, renameAnswers, deleteAnswers, lockAnswers, closeAnswers, formatAnswers, answers, recoveryAnswers, sectorAnswers, Answers}
+use Rattle.rules.specs.WriteHeader.{HeaderOutcome, headerCall}
+use Rattle.rules.specs.Demand1.{readAnswers, writeAnswers, openAnswers, getAnswers, putAnswers, statusAnswers, renameAnswers, deleteAnswers, lockAnswers, closeAnswers, formatAnswers, answers, recoveryAnswers, sectorAnswers, headerAnswers, Answers}
 use Rattle.theory.proofs.Served.{cio-on, recover-on, sector-on, thin-get-on, thin-put-on}
 
 -- a name's refusal is 130, 160 or 165: what holds of these holds of it
@@ -224,12 +228,20 @@ module _ (g : Geometry) (d : Disk) where
       P : SectorOutcome → Type 0
       P o = Among sectorAnswers (o .reply .status)
 
--- no call on an image of 92,160 bytes answers anything else
-pub all-answers : (l : List ℕ) → length l ≡ 92160 → Answers l
-all-answers l w = record {
-  calls = λ t c text b. rw (cio-on l w t c text b) (cio-answers single (view single l) t c text b);
-  recoveries = λ s. rw (recover-on l w s) (recovery-answers single (view single l) s);
-  sectors = λ device unit command k b. rw (sector-on l w device unit command k b) (sector-answers single (view single l) device unit command k b);
-  thinGets = λ c b. rw (thin-get-on l w c b) (get-answers single (view single l) (c .state) b);
-  thinPuts = λ c b. rw (thin-put-on l w c b) (put-answers single (view single l) (c .state) b);
+-- no call on an image that is served answers anything else
+pub all-answers : (l : List ℕ) (m : Medium) → servedAs l ≡ As m → Answers l
+all-answers l m w = let g = geometryOf m in let d = view g l in record {
+  calls = λ t c text b. rw (cio-on l m w t c text b) (cio-answers g d t c text b);
+  recoveries = λ s. rw (recover-on l m w s) (recovery-answers g d s);
+  sectors = λ device unit command k b. rw (sector-on l m w device unit command k b) (sector-answers g d device unit command k b);
+  thinGets = λ c b. rw (thin-get-on l m w c b) (get-answers g d (c .state) b);
+  thinPuts = λ c b. rw (thin-put-on l m w c b) (put-answers g d (c .state) b);
 }
+
+-- nor does the header's writer
+pub header-answers : (l : List ℕ) → member (headerCall l .reply .status) headerAnswers ≡ true
+unfolding headerCall member
+header-answers l = by-check P _ _ _ (λ _. refl) λ _. by-check P _ _ _ (λ _. refl) λ _. refl
+  where
+    P : HeaderOutcome → Type 0
+    P o = Among headerAnswers (o .reply .status)

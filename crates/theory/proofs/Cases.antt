@@ -15,7 +15,7 @@ use Rattle.layout.specs.declared.Found.the-variants.{At, Nothing}
 use Rattle.layout.specs.declared.Table.{Table}
 use Rattle.rules.specs.declared.Block.{Block}
 use Rattle.layout.specs.Image.{Disk, Geometry}
-use Rattle.layout.specs.Volume.{bitOn, bitOff, lowest, fresh}
+use Rattle.layout.specs.Volume.{bitOn, bitOff, lowest, formatted}
 use Rattle.layout.specs.Directory.{flag, count, putFlag, putName, locked, output, find, another}
 use Rattle.layout.specs.File.{clean, delete, give}
 use Rattle.layout.specs.Channels.{stateOf, withState, openAt, anyOpen, held, newSlot}
@@ -78,7 +78,7 @@ module _ (g : Geometry) (d : Disk) (t : Table) where
       pub deletes : c .command ≡ 33 → (s : ℕ) → Ready d t (readName text) s → clean g d s ≡ true → Leaves (delete g d s)
       pub locks : c .command ≡ 35 → (s : ℕ) → Located d (readName text) s → held d t s ≡ false → Leaves (putFlag d s (bitOn (flag d s) 5))
       pub unlocks : c .command ≡ 36 → (s : ℕ) → Located d (readName text) s → held d t s ≡ false → Leaves (putFlag d s (bitOff (flag d s) 5))
-      pub formats : c .command ≡ 254 → anyOpen t ≡ false → Leaves fresh
+      pub formats : c .command ≡ 254 → anyOpen t ≡ false → Leaves (formatted d)
 
     module _ (k : Cases) where
       -- a refusal of one of the numbers of the table

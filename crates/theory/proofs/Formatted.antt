@@ -38,7 +38,7 @@ module _ (g : Geometry) (d : Disk) (t : Table) (n : length (t .channels) ≡ 8) 
     deletes = λ m s _ _ _. other m (omega arith);
     locks = λ m s _ _ _. other m (omega arith);
     unlocks = λ m s _ _ _. other m (omega arith);
-    formats = λ _ o _. sound-format g t n (none-open t o);
+    formats = λ _ o _. sound-format g d t n (none-open t o);
   })
 
 pub formatted-sound : (g : Geometry) (y : System) → length (y .table .channels) ≡ 8 → (c : Block) (text b : List ℕ) → c .command ≡ 254 → let e = perform g (cioOf c text b) y in e .status ≡ success → Sound g (e .disk) (e .table)

@@ -22,6 +22,7 @@ pub mod SoundDir
 pub mod SoundChan
 pub mod Recovered
 pub mod Demand3
+pub mod HeaderCalls
 pub mod Contents
 pub mod Writer
 pub mod SoundAdd

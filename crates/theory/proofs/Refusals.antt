@@ -8,22 +8,26 @@ use lib.ListN.{length}
 use Rattle.layout.specs.declared.State.{State}
 use Rattle.layout.specs.declared.State.the-variants.{Closed, Reading, Writing}
 use Rattle.layout.specs.declared.Table.{Table}
+use Rattle.layout.specs.declared.density.Medium.{Medium}
+use Rattle.layout.specs.declared.Served.the-variants.{As}
 use Rattle.rules.specs.declared.Block.{Block}
 use Rattle.layout.specs.Basics.{check, member}
-use Rattle.layout.specs.Image.{Disk, Geometry, single, view}
+use Rattle.layout.specs.Image.{Disk, Geometry, geometryOf, view}
+use Rattle.layout.specs.Header.{servedAs}
 use Rattle.layout.specs.Channels.{stateOf}
 use Rattle.layout.specs.Status.{success, endOfFile, badChain, diskFull}
-use Rattle.layout.proofs.Check.{by-check}
+use Rattle.layout.proofs.Check.{by-check, by-served}
 use Rattle.layout.proofs.Channels.{with-id}
-use Rattle.layout.proofs.Image.{single-lawful, image-view}
 use Rattle.rules.specs.Get.{GetOutcome, gets, getOn}
 use Rattle.rules.specs.Put.{PutOutcome, puts, putOn}
 use Rattle.rules.specs.Commands.{refused, putAt}
-use Rattle.rules.specs.Cio.{Outcome, outcome, getAt, cio, cioCall}
-use Rattle.rules.specs.Recovery.{Recovered, recover, recoverCall}
-use Rattle.rules.specs.Sectors.{SectorOutcome, sector, sectorCall}
-use Rattle.rules.specs.Thin.{thinGet, thinPut}
-use Rattle.rules.specs.Demand1.{partials, Refusal, ImageKept, Unchanged, Refusals}
+use Rattle.rules.specs.Cio.{Outcome, outcome, ImageOutcome, leaves, getAt, cio, cioCall}
+use Rattle.rules.specs.Recovery.{Recovered, ImageRecovered, recover, recoverCall}
+use Rattle.rules.specs.Sectors.{SectorOutcome, ImageSectorOutcome, sector, sectorCall}
+use Rattle.rules.specs.Thin.{ImagePutOutcome, thinGet, thinPut}
+use Rattle.rules.specs.WriteHeader.{HeaderOutcome, headerCall}
+use Rattle.rules.specs.Demand1.{partials, Refusal, Unchanged, Refusals}
+use Rattle.theory.proofs.Served.{kept-image}
 use Rattle.theory.proofs.Answers.{by-get-from, by-put-from}
 use Rattle.theory.proofs.Cases.{by-cases}
 
@@ -150,21 +154,24 @@ module _ (g : Geometry) (d : Disk) where
       formats = λ _ _. done;
     })
 
--- an image of any length that holds the disk it held before is the same list
-pub kept-image : (l : List ℕ) (d : Disk) → d ≡ view single l → ImageKept l d
-kept-image l d e = rw e (image-view single single-lawful l)
+-- the same of the image that holds the disk
+pub unchanged : (l : List ℕ) (m : Medium) (w : servedAs l ≡ As m) (t : Table) (b : List ℕ) (o : Outcome) → Kept (view (geometryOf m) l) t b o → Unchanged l t b (leaves (geometryOf m) l o)
+unchanged l m w t b o u = record { count = u .count; image = kept-image l m w _ (u .disk); table = u .table; buffer = u .buffer }
 
-pub unchanged : (l : List ℕ) (t : Table) (b : List ℕ) (o : Outcome) → Kept (view single l) t b o → Unchanged l t b o
-unchanged l t b o u = record { count = u .count; image = kept-image l _ (u .disk); table = u .table; buffer = u .buffer }
-
--- 203 and a refusal of the call on the disk alike
+-- 203, 205 and a refusal of the call on the disk alike
 pub refusals : Refusals
-unfolding cioCall recoverCall sectorCall thinGet thinPut
+unfolding cioCall recoverCall sectorCall thinGet thinPut headerCall
 refusals = record {
-  calls = λ l t c text b h. unchanged l t b _ (by-check (λ (o : Outcome). Refusal (c .command) (o .effect .status) → Kept (view single l) t b o) _ _ _ (λ _. keep single (view single l) t c text b) (λ _. cio-refused single (view single l) t c text b) h);
-  recoveries = λ l s h. let (n, e) = by-check (λ (r : Recovered). r .reply .status ≢ success → RecoveryKept (view single l) r) _ _ _ (λ _ _. (refl, refl)) (λ _. recovery-refused single (view single l) s) h in (n, kept-image l _ e);
-  sectors = λ l device unit command k b h.
-      let (n, e, f) = by-check (λ (o : SectorOutcome). o .reply .status ≢ success → SectorKept (view single l) b o) _ _ _ (λ _ _. (refl, refl, refl)) (λ _. sector-refused single (view single l) device unit command k b) h in (n, kept-image l _ e, f);
-  thinGets = λ l c b h. by-check (λ (o : GetOutcome). Refusal 7 (o .answer .status) → GetKept (c .state) b o) _ _ _ (λ _ _. (refl, refl, refl)) (λ _. get-refused single (view single l) (c .state) b) h;
-  thinPuts = λ l c b h. let (n, f, e) = by-check (λ (o : PutOutcome). Refusal 11 (o .answer .status) → PutKept (view single l) (c .state) o) _ _ _ (λ _ _. (refl, refl, refl)) (λ _. put-refused single (view single l) (c .state) b) h in (n, f, kept-image l _ e);
+  calls = λ l t c text b. by-served (λ (o : ImageOutcome). Refusal (c .command) (o .answer .status) → Unchanged l t b o) _ _ _
+      (λ _ _ _. record { count = refl; image = refl; table = refl; buffer = refl }) (λ m w h. unchanged l m w t b _ (cio-refused (geometryOf m) (view (geometryOf m) l) t c text b h));
+  recoveries = λ l s. by-served (λ (r : ImageRecovered). r .reply .status ≢ success → (r .reply .count ≡ 0) × (r .image ≡ l)) _ _ _ (λ _ _ _. (refl, refl))
+      (λ m w h. let (n, e) = recovery-refused (geometryOf m) (view (geometryOf m) l) s h in (n, kept-image l m w _ e));
+  sectors = λ l device unit command k b. by-served (λ (o : ImageSectorOutcome). o .reply .status ≢ success → (o .reply .count ≡ 0) × (o .image ≡ l) × (o .buffer ≡ b)) _ _ _ (λ _ _ _. (refl, refl, refl))
+      (λ m w h. let (n, e, f) = sector-refused (geometryOf m) (view (geometryOf m) l) device unit command k b h in (n, kept-image l m w _ e, f));
+  thinGets = λ l c b. by-served (λ (o : GetOutcome). Refusal 7 (o .answer .status) → GetKept (c .state) b o) _ _ _ (λ _ _ _. (refl, refl, refl)) (λ m _. get-refused (geometryOf m) (view (geometryOf m) l) (c .state) b);
+  thinPuts = λ l c b. by-served (λ (o : ImagePutOutcome). Refusal 11 (o .answer .status) → (o .answer .count ≡ 0) × (o .answer .state ≡ c .state) × (o .image ≡ l)) _ _ _ (λ _ _ _. (refl, refl, refl))
+      (λ m w h. let (n, f, e) = put-refused (geometryOf m) (view (geometryOf m) l) (c .state) b h in (n, f, kept-image l m w _ e));
+  headers = λ l.
+      let P : HeaderOutcome → Type 0 = λ o. o .reply .status ≢ success → (o .reply .count ≡ 0) × (o .image ≡ l) in
+      by-check P _ _ _ (λ _ h. absurd (h refl)) λ _. by-check P _ _ _ (λ _ h. absurd (h refl)) λ _ _. (refl, refl);
 }

@@ -1,6 +1,7 @@
 -- What every get, put and close leaves, also in a partial transfer.
 use mathlib.Core.Bool.{Bool, true, false}
-use mathlib.Core.List.{List}
+use mathlib.Core.List.{List, []}
+use mathlib.Core.Logic.{_≢_, _⊎_, inl, inr}
 use mathlib.Core.Path.{_≡_, refl, sym, _∙_, subst}
 use Prim.Native.Nat.{ℕ, suc, zero, _+_, _≤_, _<_}
 use native.Mathlib.Omega.{arith}
@@ -11,25 +12,40 @@ use borrow.Author.Tests.{leb-false}
 use Rattle.layout.specs.declared.State.{State}
 use Rattle.layout.specs.declared.State.the-variants.{Closed, Reading, Writing}
 use Rattle.layout.specs.declared.Table.{Table}
-use Rattle.layout.specs.declared.Channel.{Channel}
+use Rattle.layout.specs.declared.density.Medium.{Medium}
+use Rattle.layout.specs.declared.Served.the-variants.{As, Not}
 use Rattle.rules.specs.declared.Block.{Block}
 use Rattle.rules.specs.declared.Place.{Place}
 use Rattle.rules.specs.declared.Seek.{Seek}
 use Rattle.rules.specs.declared.Seek.the-variants.{Ready, Ended, Broken}
-use Rattle.layout.specs.Image.{Disk, Geometry, single, view}
+use Rattle.layout.specs.Image.{Disk, Geometry, geometryOf, view, imageOf}
+use Rattle.layout.specs.Header.{servedAs}
+use Rattle.layout.proofs.Header.{served-whole}
 use Rattle.layout.specs.Channels.{stateOf, withState}
-use Rattle.layout.specs.Status.{badImage, badChannel, badChain}
-use Rattle.layout.proofs.Check.{check-yes, by-check}
+use Rattle.layout.specs.Status.{badImage, badHeader, badChannel, badChain}
+use Rattle.layout.proofs.Check.{check-yes, by-check, by-served}
 use Rattle.layout.proofs.Channels.{with-id}
 use Rattle.rules.specs.Get.{GetOutcome, Reads, seek, getFrom, gets, getOn}
-use Rattle.rules.specs.Put.{puts}
+use Rattle.rules.specs.Put.{puts, putOn}
 use Rattle.rules.specs.Commands.{Effect, refused, putAt, closeState, closeCall}
-use Rattle.rules.specs.Cio.{Outcome, outcome, getAt, cio, cioCall}
-use Rattle.rules.specs.Demand1.{Moved, OnlyChannel, OnlyEnd, Transfers}
-use Rattle.rules.specs.Thin.{thinGet, thinPut}
+use Rattle.rules.specs.Cio.{Outcome, outcome, ImageOutcome, leaves, getAt, cio, cioCall}
+use Rattle.rules.specs.Demand1.{Unchanged, Moved, OnlyChannel, OnlyEnd, OnlyEndOn, Transfers}
+use Rattle.rules.specs.Lists.{cioOf, outcomeOf}
+use Rattle.rules.specs.Thin.{ImagePutOutcome, thinGet, thinPut}
 use Rattle.theory.proofs.Rows.{row-get, row-put, row-close, row-buffer}
 use Rattle.theory.proofs.Adding.{Leaves, put-leaves}
-use Rattle.theory.proofs.Refusals.{Kept, kept-image, unchanged}
+use Rattle.theory.proofs.Refusals.{Kept, unchanged}
+use Rattle.theory.proofs.Served.{laws, kept-image, held-view, not-served}
+use Rattle.theory.proofs.Placed.{Placed, view-placed}
+use Rattle.theory.proofs.PlacedCalls.{put-on-placed, call-placed}
+
+-- the channels as they were
+same : (t : Table) (i : ℕ) → OnlyChannel t i t
+same t i = (stateOf t i, sym (with-id t i _ refl))
+
+-- no bytes moved
+none : (b : List ℕ) → Moved 0 b b
+none b = record { few = omega arith; rest = refl }
 
 module _ (g : Geometry) (d : Disk) where
   -- bytes read into b from i on: at most n more, and what is behind them stays
@@ -72,15 +88,11 @@ module _ (g : Geometry) (d : Disk) where
         go true e = rw (check-yes {A = Outcome} (leb 8 (c .channel)) _ _ e) r
         go false e = f (leb-false 8 (c .channel) e)
 
-    -- the channels as they were
-    same : OnlyChannel t (c .channel) t
-    same = (stateOf t (c .channel), sym (with-id t (c .channel) _ refl))
-
     abbrev Get : Outcome → Type 0
     Get o = (o .effect .disk ≡ d) × Moved (o .effect .count) (o .buffer) b × OnlyChannel t (c .channel) (o .effect .table)
 
     get-none : (n : ℕ) → Get (outcome (refused n d t) b)
-    get-none n = (refl, record { few = omega arith; rest = refl }, same)
+    get-none n = (refl, none b, same t (c .channel))
 
     get-transfer : c .command ≡ 7 → Get (cio g d t c text b)
     unfolding getAt
@@ -90,7 +102,7 @@ module _ (g : Geometry) (d : Disk) where
     Put o = (o .effect .count ≤ length b) × (o .buffer ≡ b) × OnlyChannel t (c .channel) (o .effect .table) × OnlyEnd (stateOf t (c .channel)) d (o .effect .disk) (o .effect .given)
 
     put-none : (n : ℕ) → Put (outcome (refused n d t) b)
-    put-none n = (omega arith, refl, same, λ s p _ k _ _ _ _. refl)
+    put-none n = (omega arith, refl, same t (c .channel), λ s p _ k _ _ _ _. refl)
 
     put-transfer : c .command ≡ 11 → Put (cio g d t c text b)
     unfolding putAt
@@ -111,36 +123,52 @@ module _ (g : Geometry) (d : Disk) where
         go (Reading s k o l) = λ h. absurd (omega arith)
         go (Writing s p) = by-check E _ _ _ (λ _ _. record { count = refl; disk = refl; table = refl; buffer = refl }) λ _ h. absurd (omega arith)
 
--- on an image of another length the answer is 203, and nothing moved
-module _ (l : List ℕ) where
+-- on an image that is served: the image after it holds the disk after it
+module _ (l : List ℕ) (m : Medium) (w : servedAs l ≡ As m) where
+  abbrev g : Geometry
+  g = geometryOf m
+
   abbrev D : Disk
-  D = view single l
+  D = view g l
 
-  get-on : (t : Table) (c : Block) (text b : List ℕ) → c .command ≡ 7 → Get single D t c text b (cioCall single l t c text b)
-  unfolding cioCall
-  get-on t c text b e = by-check (Get single D t c text b) _ _ _ (λ _. get-none single D t c text b badImage) (λ _. get-transfer single D t c text b e)
+  -- the file's end, on the image that holds a disk
+  end-on : (st : State) (e : Disk) (given : List ℕ) → Placed g (D 0) e → OnlyEnd st D e given → OnlyEndOn st l (imageOf g (length l) e) given
+  end-on st e given p f m' w' = let q : m ≡ m' = cc in rw (← q, held-view l m w e p) f
 
-  thin-get-on : (c : Channel) (b : List ℕ) → Gets single D b (thinGet single l c b)
-  unfolding thinGet
-  thin-get-on c b = by-check (Gets single D b) _ _ _ (λ _. record { few = omega arith; rest = refl }) (λ _. get-moved single D (c .state) b)
+  placed : Placed g (D 0) D
+  placed = view-placed g (laws l m w) l (served-whole l m w .1)
 
-  put-on : (t : Table) (c : Block) (text b : List ℕ) → c .command ≡ 11 → Put single D t c text b (cioCall single l t c text b)
-  unfolding cioCall
-  put-on t c text b e = by-check (Put single D t c text b) _ _ _ (λ _. put-none single D t c text b badImage) (λ _. put-transfer single D t c text b e)
+  put-on : (t : Table) (c : Block) (text b : List ℕ) → c .command ≡ 11 → let o = leaves g l (cio g D t c text b) in
+      (o .answer .count ≤ length b) × (o .buffer ≡ b) × OnlyChannel t (c .channel) (o .answer .table) × OnlyEndOn (stateOf t (c .channel)) l (o .image) (o .given)
+  unfolding outcomeOf
+  put-on t c text b e =
+      let (n, q, u, f) = put-transfer g D t c text b e in
+      (n, q, u, end-on (stateOf t (c .channel)) _ _ (call-placed g (laws l m w) (D 0) (cioOf c text b) (record { disk = D; table = t }) placed) f)
 
-  thin-put-on : (c : Channel) (b : List ℕ) → Leaves (c .state) D b (thinPut single l c b)
-  unfolding thinPut
-  thin-put-on c b = by-check (Leaves (c .state) D b) _ _ _ (λ _. record { few = omega arith; idle = λ _. refl; end = λ s p _ k _ _ _ _. refl }) (λ _. put-leaves single D (c .state) b)
+  thin-put-on : (st : State) (b : List ℕ) → let o = putOn g D st b in (o .answer .count ≤ length b) × OnlyEndOn st l (imageOf g (length l) (o .disk)) (o .given)
+  thin-put-on st b = let h = put-leaves g D st b in (h .few, end-on st _ _ (put-on-placed g (laws l m w) (D 0) D placed st b) (h .end))
 
-  close-on : (t : Table) (c : Block) (text b : List ℕ) → c .command ≡ 12 → Closes single D t c text b (cioCall single l t c text b)
-  unfolding cioCall
-  close-on t c text b e = by-check (Closes single D t c text b) _ _ _ (λ _ q. absurd (omega arith)) (λ _. close-transfer single D t c text b e)
+-- on one that is not, nothing moved
+still : (l : List ℕ) (st : State) → OnlyEndOn st l l []
+still l st m w s p _ k _ _ _ _ = refl
+
+no-close : (l : List ℕ) (n : ℕ) → servedAs l ≡ Not n → n ≢ badChain
+no-close l n w q = go (not-served l .only n w)
+  where
+    go : (n ≡ badImage) ⊎ (n ≡ badHeader) → ⊥
+    go (inl e) = omega arith
+    go (inr e) = omega arith
 
 pub transfers : Transfers
+unfolding cioCall thinGet thinPut
 transfers = record {
-  gets = λ l t c text b e. let (d, m, u) = get-on l t c text b e in (kept-image l _ d, m, u);
-  thinGets = λ l c b. thin-get-on l c b;
-  puts = λ l t c text b e. put-on l t c text b e;
-  thinPuts = λ l c b. let h = thin-put-on l c b in (h .few, h .end);
-  closes = λ l t c text b e h. unchanged l (withState t (c .channel) Closed) b _ (close-on l t c text b e h);
+  gets = λ l t c text b e. by-served (λ (o : ImageOutcome). (o .image ≡ l) × Moved (o .answer .count) (o .buffer) b × OnlyChannel t (c .channel) (o .answer .table)) _ _ _
+      (λ _ _. (refl, none b, same t (c .channel))) (λ m w. let (d, r, u) = get-transfer (geometryOf m) (view (geometryOf m) l) t c text b e in (kept-image l m w _ d, r, u));
+  thinGets = λ l c b. by-served (λ (o : GetOutcome). Moved (o .answer .count) (o .buffer) b) _ _ _ (λ _ _. none b) (λ m _. get-moved (geometryOf m) (view (geometryOf m) l) (c .state) b);
+  puts = λ l t c text b e. by-served (λ (o : ImageOutcome). (o .answer .count ≤ length b) × (o .buffer ≡ b) × OnlyChannel t (c .channel) (o .answer .table) × OnlyEndOn (stateOf t (c .channel)) l (o .image) (o .given)) _ _ _
+      (λ _ _. (omega arith, refl, same t (c .channel), still l (stateOf t (c .channel)))) (λ m w. put-on l m w t c text b e);
+  thinPuts = λ l c b. by-served (λ (o : ImagePutOutcome). (o .answer .count ≤ length b) × OnlyEndOn (c .state) l (o .image) (o .given)) _ _ _
+      (λ _ _. (omega arith, still l (c .state))) (λ m w. thin-put-on l m w (c .state) b);
+  closes = λ l t c text b e. by-served (λ (o : ImageOutcome). o .answer .status ≡ badChain → Unchanged l (withState t (c .channel) Closed) b o) _ _ _
+      (λ n w q. absurd (no-close l n w q)) (λ m w q. unchanged l m w (withState t (c .channel) Closed) b _ (close-transfer (geometryOf m) (view (geometryOf m) l) t c text b e q));
 }

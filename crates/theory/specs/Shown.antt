@@ -8,7 +8,10 @@ use Rattle.layout.specs.declared.State.{State}
 use Rattle.layout.specs.declared.State.the-variants.{Reading}
 use Rattle.layout.specs.declared.Channel.{Channel}
 use Rattle.layout.specs.Basics.{valuesFrom}
-use Rattle.layout.specs.Image.{Disk, single, view}
+use Rattle.layout.specs.declared.density.Medium.{Medium}
+use Rattle.layout.specs.declared.Served.the-variants.{As}
+use Rattle.layout.specs.Image.{Disk, Geometry, geometryOf, view}
+use Rattle.layout.specs.Header.{servedAs}
 use Rattle.layout.specs.File.{used}
 use Rattle.layout.specs.Status.{success, badChain}
 use Rattle.rules.specs.Get.{GetOutcome, nextToEnter, hasByte, ends, readable}
@@ -16,11 +19,11 @@ use Rattle.rules.specs.Showing.{shows, shownStart, shownLength, shownPart}
 use Rattle.rules.specs.Thin.{thinGet}
 
 -- a channel that reads slot s is at the edge of sector k: it passes a get's first test, its sector is used up and not the file's last, and the next to enter is k
-pub record AtEdge (d : Disk) (s j o k : ℕ) : Type 0 where
-  pub tested : readable single d s j o ≡ true
-  pub usedUp : hasByte single d j o ≡ false
-  pub goesOn : ends single d j ≡ false
-  pub enters : nextToEnter single d s j ≡ k
+pub record AtEdge (g : Geometry) (d : Disk) (s j o k : ℕ) : Type 0 where
+  pub tested : readable g d s j o ≡ true
+  pub usedUp : hasByte g d j o ≡ false
+  pub goesOn : ends g d j ≡ false
+  pub enters : nextToEnter g d s j ≡ k
 
 -- a get with a buffer b that these bytes fill: 1, and the first of them; the channel has entered sector k
 pub record Gives (part : List ℕ) (s k n : ℕ) (b : List ℕ) (z : GetOutcome) : Type 0 where
@@ -36,19 +39,25 @@ pub record Stops (st : State) (b : List ℕ) (z : GetOutcome) : Type 0 where
   pub state : z .answer .state ≡ st
   pub buffer : z .buffer ≡ b
 
+-- on an image that is served with this geometry
+pub record ShownOn (g : Geometry) (l : List ℕ) : Type 0 where
+  -- where the answer is yes the part is the sector's bytes in use
+  pub part : (s k : ℕ) → shows l s k ≡ true → let r = view g l k in shownPart l s k ≡ valuesFrom r (used g r) 0
+  -- a get from the edge of the sector with sectors left delivers it
+  pub delivers : (s j o k n : ℕ) → AtEdge g (view g l) s j o k → shows l s k ≡ true
+      → (c : Channel) → c .state ≡ Reading s j o (suc n) → (b : List ℕ) → 0 < length b → length b ≤ shownLength l s k → Gives (shownPart l s k) s k n b (thinGet l c b)
+  -- and it goes on as from the sector's first byte, whatever its buffer
+  pub entered : (s j o k n : ℕ) → AtEdge g (view g l) s j o k → shows l s k ≡ true
+      → (c e : Channel) → c .state ≡ Reading s j o (suc n) → e .state ≡ Reading s k 0 n → (b : List ℕ) → 0 < length b → thinGet l c b ≡ thinGet l e b
+  -- where the answer is no it answers 164
+  pub stops : (s j o k n : ℕ) → AtEdge g (view g l) s j o k → shows l s k ≡ false
+      → (c : Channel) → c .state ≡ Reading s j o (suc n) → (b : List ℕ) → 0 < length b → Stops (Reading s j o (suc n)) b (thinGet l c b)
+
 -- on any image, sound or not
 pub record Shown : Type 0 where
-  -- the part lies in the image, and where the answer is yes it is the sector's bytes in use
-  pub within : (l : List ℕ) (s k : ℕ) → shownStart single l s k + shownLength single l s k ≤ length l
-  pub part : (l : List ℕ) (s k : ℕ) → shows single l s k ≡ true → let r = view single l k in shownPart single l s k ≡ valuesFrom r (used single r) 0
-  -- otherwise it is empty, at the image's start
-  pub none : (l : List ℕ) (s k : ℕ) → shows single l s k ≡ false → (shownStart single l s k ≡ 0) × (shownPart single l s k ≡ [])
-  -- yes: a get from the edge of the sector with sectors left delivers the part
-  pub delivers : (l : List ℕ) (s j o k n : ℕ) → AtEdge (view single l) s j o k → shows single l s k ≡ true
-      → (c : Channel) → c .state ≡ Reading s j o (suc n) → (b : List ℕ) → 0 < length b → length b ≤ shownLength single l s k → Gives (shownPart single l s k) s k n b (thinGet single l c b)
-  -- and it goes on as from the sector's first byte, whatever its buffer
-  pub entered : (l : List ℕ) (s j o k n : ℕ) → AtEdge (view single l) s j o k → shows single l s k ≡ true
-      → (c e : Channel) → c .state ≡ Reading s j o (suc n) → e .state ≡ Reading s k 0 n → (b : List ℕ) → 0 < length b → thinGet single l c b ≡ thinGet single l e b
-  -- no, on an image of 92,160 bytes: it answers 164
-  pub stops : (l : List ℕ) → length l ≡ 92160 → (s j o k n : ℕ) → AtEdge (view single l) s j o k → shows single l s k ≡ false
-      → (c : Channel) → c .state ≡ Reading s j o (suc n) → (b : List ℕ) → 0 < length b → Stops (Reading s j o (suc n)) b (thinGet single l c b)
+  -- the part lies in the image
+  pub within : (l : List ℕ) (s k : ℕ) → shownStart l s k + shownLength l s k ≤ length l
+  -- where the answer is no it is empty, at the image's start; so it is on an image that is not served
+  pub none : (l : List ℕ) (s k : ℕ) → shows l s k ≡ false → (shownStart l s k ≡ 0) × (shownPart l s k ≡ [])
+  -- on one that is served as m
+  pub on : (l : List ℕ) (m : Medium) → servedAs l ≡ As m → ShownOn (geometryOf m) l

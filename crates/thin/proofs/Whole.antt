@@ -1,43 +1,65 @@
 -- A thin call on the record of a channel does to it what a get or a put does to that channel of a table.
-use mathlib.Core.Bool.{not}
 use mathlib.Core.List.{List, []}
-use mathlib.Core.Path.{_≡_, sym, ap, _∙_}
+use mathlib.Core.Path.{_≡_, refl, sym, ap, _∙_}
 use Prim.Native.Nat.{ℕ, _<_}
 use lib.ListN.{length}
 use borrow.Author.Tests.{eq-eqb, lt-leb}
 use Rattle.layout.specs.declared.Table.{Table}
 use Rattle.layout.specs.declared.Found.the-variants.{Nothing}
-use Rattle.layout.specs.Image.{Geometry, view}
+use Rattle.layout.specs.declared.Served.{Served}
+use Rattle.layout.specs.declared.Served.the-variants.{As, Not}
+use Rattle.layout.specs.Image.{geometryOf, view, imageOf}
+use Rattle.layout.specs.Header.{servedAs}
 use Rattle.layout.specs.Channels.{channel, stateOf, withState}
-use Rattle.layout.proofs.Check.{check-yes, check-no}
+use Rattle.layout.proofs.Channels.{with-id}
+use Rattle.layout.proofs.Check.{check-yes, check-no, served-as, served-not}
+use Rattle.layout.proofs.Header.{served-whole}
+use Rattle.layout.proofs.Image.{lawful, image-view}
 use Rattle.rules.specs.declared.Block.{Block}
+use Rattle.rules.specs.declared.Answer.{Answer}
 use Rattle.rules.specs.Get.{GetOutcome}
-use Rattle.rules.specs.Put.{PutOutcome}
 use Rattle.rules.specs.Commands.{putAt}
-use Rattle.rules.specs.Cio.{Outcome, outcome, getAt, command, cio, cioCall}
-use Rattle.rules.specs.Thin.{thinGet, thinPut}
+use Rattle.rules.specs.Cio.{Outcome, outcome, getAt, command, cio, ImageOutcome, leaves, cioCall}
+use Rattle.rules.specs.Thin.{ImagePutOutcome, thinGet, thinPut}
 
-module _ (g : Geometry) (l : List ℕ) (t : Table) where
+-- what a call answers, with the image and the buffer after it
+abbrev tells : ℕ → ℕ → Table → List ℕ → List ℕ → List ℕ → ImageOutcome
+tells status n t l b ks = record { answer = record { status = status; count = n; table = t }; image = l; buffer = b; given = ks; took = Nothing }
+
+module _ (l : List ℕ) (t : Table) where
   -- what a call that moves channel i does, of what a thin call on its record does
-  abbrev pub getWhole : ℕ → GetOutcome → Outcome
-  getWhole i o = outcome (record { status = o .answer .status; count = o .answer .count; disk = view g l; table = withState t i (o .answer .state); given = []; took = Nothing }) (o .buffer)
+  abbrev pub getWhole : ℕ → GetOutcome → ImageOutcome
+  getWhole i o = tells (o .answer .status) (o .answer .count) (withState t i (o .answer .state)) l (o .buffer) []
 
-  abbrev pub putWhole : ℕ → List ℕ → PutOutcome → Outcome
-  putWhole i b o = outcome (record { status = o .answer .status; count = o .answer .count; disk = o .disk; table = withState t i (o .answer .state); given = o .given; took = Nothing }) b
+  -- a put tells besides which sectors it gave out
+  abbrev pub putWhole : ℕ → List ℕ → ImagePutOutcome → ImageOutcome
+  putWhole i b o = tells (o .answer .status) (o .answer .count) (withState t i (o .answer .state)) (o .image) b (o .given)
 
-  -- on an image of the right length, with a channel of the table
-  module _ (c : Block) (text b : List ℕ) (long : length l ≡ g .total) (low : c .channel < 8) where
-    pub get-whole : c .command ≡ 7 → cioCall g l t c text b ≡ getWhole (c .channel) (thinGet g l (channel (stateOf t (c .channel))) b)
+  -- with a channel of the table
+  module _ (c : Block) (text b : List ℕ) (low : c .channel < 8) where
+    pub get-whole : c .command ≡ 7 → cioCall l t c text b ≡ getWhole (c .channel) (thinGet l (channel (stateOf t (c .channel))) b)
     unfolding cioCall cio getAt thinGet
-    get-whole e =
-        let right = ap not (eq-eqb (length l) (g .total) long) in
-        check-no _ _ _ right ∙ check-no _ _ _ (lt-leb 8 (c .channel) low) ∙ check-yes _ _ _ (eq-eqb (c .command) 7 e)
-        ∙ ap (getWhole (c .channel)) (sym (check-no _ _ _ right))
+    get-whole e = go (servedAs l) refl
+      where
+        go : (v : Served) → servedAs l ≡ v → cioCall l t c text b ≡ getWhole (c .channel) (thinGet l (channel (stateOf t (c .channel))) b)
+        go (Not status) q =
+            served-not {A = ImageOutcome} _ _ _ q ∙ ap (λ u. tells status 0 u l b []) (sym (with-id t (c .channel) _ refl))
+            ∙ ap (getWhole (c .channel)) (sym (served-not {A = GetOutcome} _ _ _ q))
+        go (As m) q =
+            served-as {A = ImageOutcome} _ _ _ q
+            ∙ ap (leaves (geometryOf m) l) (check-no {A = Outcome} _ _ _ (lt-leb 8 (c .channel) low) ∙ check-yes {A = Outcome} _ _ _ (eq-eqb (c .command) 7 e))
+            ∙ rw (image-view (geometryOf m) (lawful m (served-whole l m q .0)) l) (ap (getWhole (c .channel)) (sym (served-as {A = GetOutcome} _ _ _ q)))
 
-    pub put-whole : c .command ≡ 11 → cioCall g l t c text b ≡ putWhole (c .channel) b (thinPut g l (channel (stateOf t (c .channel))) b)
+    pub put-whole : c .command ≡ 11 → cioCall l t c text b ≡ putWhole (c .channel) b (thinPut l (channel (stateOf t (c .channel))) b)
     unfolding cioCall cio command putAt thinPut
-    put-whole e =
-        let right = ap not (eq-eqb (length l) (g .total) long) in
-        check-no _ _ _ right ∙ check-no _ _ _ (lt-leb 8 (c .channel) low) ∙ check-no _ _ _ (rw e)
-        ∙ ap (λ f. outcome f b) (check-no _ _ _ (rw e) ∙ check-yes _ _ _ (eq-eqb (c .command) 11 e))
-        ∙ ap (putWhole (c .channel) b) (sym (check-no _ _ _ right))
+    put-whole e = go (servedAs l) refl
+      where
+        go : (v : Served) → servedAs l ≡ v → cioCall l t c text b ≡ putWhole (c .channel) b (thinPut l (channel (stateOf t (c .channel))) b)
+        go (Not status) q =
+            served-not {A = ImageOutcome} _ _ _ q ∙ ap (λ u. tells status 0 u l b []) (sym (with-id t (c .channel) _ refl))
+            ∙ ap (putWhole (c .channel) b) (sym (served-not {A = ImagePutOutcome} _ _ _ q))
+        go (As m) q =
+            served-as {A = ImageOutcome} _ _ _ q
+            ∙ ap (leaves (geometryOf m) l) (check-no {A = Outcome} _ _ _ (lt-leb 8 (c .channel) low) ∙ check-no {A = Outcome} _ _ _ (rw e)
+            ∙ ap (λ f. outcome f b) (check-no _ _ _ (rw e) ∙ check-yes _ _ _ (eq-eqb (c .command) 11 e)))
+            ∙ ap (putWhole (c .channel) b) (sym (served-as {A = ImagePutOutcome} _ _ _ q))

@@ -7,16 +7,14 @@ use by_value::write_on;
 use layout::Channel;
 use rules::Reply;
 ghost use mathlib.Core.Path.{_≡_};
-ghost use lib.ListN.{length};
-ghost use Rattle.layout.specs.Image.{single, imageOf};
 ghost use Rattle.rules.specs.Thin.{replyOf, channelAfter, thinGet, thinPut};
 ghost use Rattle.thin.specs.Moves.{moved, told};
 
 // Fills the lent buffer from the lent record on.
 pub fn thin_get(image: &[u8], channel: &mut Channel, buffer: &mut [u8]) -> Reply
-    ensures { λ r. ⌜ (r ≡ replyOf (thinGet single (now (image .entry)) (now (channel .entry)) (now (buffer .entry)) .answer))
-        × (now (channel .exit) ≡ channelAfter (thinGet single (now (image .entry)) (now (channel .entry)) (now (buffer .entry)) .answer))
-        × (now (buffer .exit) ≡ thinGet single (now (image .entry)) (now (channel .entry)) (now (buffer .entry)) .buffer) ⌝ }
+    ensures { λ r. ⌜ (r ≡ replyOf (thinGet (now (image .entry)) (now (channel .entry)) (now (buffer .entry)) .answer))
+        × (now (channel .exit) ≡ channelAfter (thinGet (now (image .entry)) (now (channel .entry)) (now (buffer .entry)) .answer))
+        × (now (buffer .exit) ≡ thinGet (now (image .entry)) (now (channel .entry)) (now (buffer .entry)) .buffer) ⌝ }
 {
     let before = *channel;
     let read = read_on(image, before, buffer);
@@ -29,9 +27,9 @@ pub fn thin_get(image: &[u8], channel: &mut Channel, buffer: &mut [u8]) -> Reply
 
 // Adds the lent bytes at the end of the lent record's file.
 pub fn thin_put(image: &mut [u8], channel: &mut Channel, buffer: &[u8]) -> Reply
-    ensures { λ r. ⌜ (r ≡ replyOf (thinPut single (now (image .entry)) (now (channel .entry)) (now (buffer .entry)) .answer))
-        × (now (channel .exit) ≡ channelAfter (thinPut single (now (image .entry)) (now (channel .entry)) (now (buffer .entry)) .answer))
-        × (now (image .exit) ≡ imageOf single (length (now (image .entry))) (thinPut single (now (image .entry)) (now (channel .entry)) (now (buffer .entry)) .disk)) ⌝ }
+    ensures { λ r. ⌜ (r ≡ replyOf (thinPut (now (image .entry)) (now (channel .entry)) (now (buffer .entry)) .answer))
+        × (now (channel .exit) ≡ channelAfter (thinPut (now (image .entry)) (now (channel .entry)) (now (buffer .entry)) .answer))
+        × (now (image .exit) ≡ thinPut (now (image .entry)) (now (channel .entry)) (now (buffer .entry)) .image) ⌝ }
 {
     let before = *channel;
     let written = write_on(image, before, buffer);

@@ -1,8 +1,10 @@
 //! Two sides that take the same steps, and what differs between them.
 
+use model::image::Kind;
+
 use crate::side::Side;
 use crate::step::{Call, Step};
-use crate::world::{Reply, World};
+use crate::world::{sector_and_byte, Reply, World};
 
 /// The two sides, each with a world of its own.
 pub struct Pair<'a> {
@@ -24,8 +26,8 @@ impl<'a> Pair<'a> {
         Pair {
             left: left.1,
             right: right.1,
-            left_world: World::new(),
-            right_world: World::new(),
+            left_world: World::fresh(Kind::Raw),
+            right_world: World::fresh(Kind::Raw),
             names: [left.0, right.0],
         }
     }
@@ -89,8 +91,9 @@ impl<'a> Pair<'a> {
             });
         }
         let [left, right] = [&self.left_world, &self.right_world];
-        let image = |at: usize| format!("image sector {} byte {}", at / 128 + 1, at % 128);
-        self.places(&mut lines, &left.image, &right.image, image);
+        self.places(&mut lines, &left.image, &right.image, |at| {
+            place_in_image(left.kind, at)
+        });
         let table = |at: usize| format!("table channel {} word {}", at / 5, at % 5);
         self.places(&mut lines, &left.table, &right.table, table);
         Difference(lines)
@@ -119,6 +122,15 @@ impl<'a> Pair<'a> {
     fn line(&self, lines: &mut Vec<String>, place: &str, left: &str, right: &str) {
         let [left_name, right_name] = self.names;
         lines.push(format!("{place}: {left_name} {left}, {right_name} {right}"));
+    }
+}
+
+/// A byte of the image by its sector, or as one of the header or behind the image.
+fn place_in_image(kind: Kind, at: usize) -> String {
+    match sector_and_byte(kind, at) {
+        _ if at >= kind.length() => format!("byte {at}, behind the image"),
+        (0, byte) => format!("header byte {byte}"),
+        (sector, byte) => format!("image sector {sector} byte {byte}"),
     }
 }
 

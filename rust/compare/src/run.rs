@@ -1,5 +1,7 @@
 //! Many cases from one seed, up to the first difference.
 
+use model::image::Kind;
+
 use crate::generate::Generator;
 use crate::pair::{Difference, Pair};
 use crate::random::Random;
@@ -26,7 +28,7 @@ pub fn run(
     statistics: &mut Statistics,
 ) -> Result<usize, Box<Failure>> {
     let mut seeds = Random::new(seed);
-    let start = World::new();
+    let start = World::fresh(Kind::Raw);
     let mut made = 0;
     while made < calls {
         pair.reset(&start);
@@ -49,7 +51,10 @@ fn run_case(
         steps.push(step);
         match outcome {
             Ok(None) => (),
-            Ok(Some(reply)) => statistics.count(&steps[steps.len() - 1], reply.answer),
+            Ok(Some(reply)) => {
+                let kind = pair.world().kind;
+                statistics.count(kind, &steps[steps.len() - 1], reply.answer);
+            }
             Err(difference) => {
                 return Err(Box::new(Failure {
                     calls: *made,

@@ -1,9 +1,11 @@
 //! Shrinking: a short list of steps that still shows a difference.
 
+use model::image::Kind;
+
 use crate::pair::{Difference, Pair};
 use crate::run::{run, Failure};
 use crate::statistics::Statistics;
-use crate::step::{Buffer, Lengths, Step};
+use crate::step::{Buffer, Step};
 use crate::world::World;
 
 /// Runs of shorter lists tried at most.
@@ -40,7 +42,7 @@ pub fn shortest(pair: &mut Pair, seed: u64, failure: Failure) -> Shrunk {
 
 /// Shortens the list of steps of a failure.
 fn shrink(pair: &mut Pair, failure: Failure) -> Shrunk {
-    let start = World::new();
+    let start = World::fresh(Kind::Raw);
     let mut best = Shrunk {
         steps: failure.steps,
         difference: failure.difference,
@@ -118,11 +120,8 @@ fn simpler(step: &Step) -> Vec<Step> {
         return Vec::new();
     };
     let mut steps = Vec::new();
-    if *lengths != Lengths::RIGHT {
-        steps.push(Step::Call {
-            call: call.clone(),
-            lengths: Lengths::RIGHT,
-        });
+    if lengths.is_some() {
+        steps.push(call.clone().into());
     }
     let buffers = call.buffer().map(simpler_buffers).unwrap_or_default();
     steps.extend(buffers.into_iter().map(|buffer| Step::Call {

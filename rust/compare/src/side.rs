@@ -3,7 +3,7 @@
 use model::fault::Variant;
 use model::{Model, RIGHT};
 
-/// Something that answers the seven calls of the C interface.
+/// Something that answers the eight calls of the C interface.
 pub trait Side {
     /// One CIO command on a channel of the table.
     #[allow(clippy::too_many_arguments)]
@@ -43,9 +43,12 @@ pub trait Side {
 
     /// A name taken apart.
     fn name(&self, name: &[u8], eleven: &mut [u8]) -> u64;
+
+    /// The header of an ATR image written.
+    fn header(&self, image: &mut [u8]) -> u64;
 }
 
-/// Hands the seven calls on to the functions of the same names in a module, or to the methods of a value.
+/// Hands the eight calls on to the functions of the same names in a module, or to the methods of a value.
 macro_rules! hand_on_to {
     ($me:ident => $($to:tt)*) => {
         fn cio(
@@ -91,6 +94,10 @@ macro_rules! hand_on_to {
 
         fn name(&$me, name: &[u8], eleven: &mut [u8]) -> u64 {
             $($to)*name(name, eleven)
+        }
+
+        fn header(&$me, image: &mut [u8]) -> u64 {
+            $($to)*header(image)
         }
     };
 }

@@ -3,23 +3,35 @@
 use std::collections::BTreeMap;
 use std::fmt::{self, Display, Formatter};
 
+use model::image::Kind;
+
 use crate::step::{Call, Step};
 
-/// Counts of answers by kind of call and status.
+/// Counts of answers by kind of call and status, and of calls by kind of image.
 #[derive(Default)]
-pub struct Statistics(BTreeMap<&'static str, BTreeMap<u8, usize>>);
+pub struct Statistics {
+    answers: BTreeMap<&'static str, BTreeMap<u8, usize>>,
+    images: BTreeMap<Kind, usize>,
+}
 
 impl Statistics {
-    pub fn count(&mut self, step: &Step, answer: u64) {
+    /// Counts the answer of a call on an image of the kind.
+    pub fn count(&mut self, image: Kind, step: &Step, answer: u64) {
         if let Step::Call { call, .. } = step {
-            let statuses = self.0.entry(kind(call)).or_default();
+            let statuses = self.answers.entry(kind(call)).or_default();
             *statuses.entry((answer % 256) as u8).or_default() += 1;
+            *self.images.entry(image).or_default() += 1;
         }
+    }
+
+    /// The calls on images of a kind.
+    pub fn calls_on(&self, image: Kind) -> usize {
+        self.images.get(&image).copied().unwrap_or_default()
     }
 
     /// The statuses that came for a kind of call, in order.
     pub fn statuses(&self, kind: &str) -> Vec<u8> {
-        self.0
+        self.answers
             .get(kind)
             .into_iter()
             .flat_map(|statuses| statuses.keys().copied())
@@ -57,19 +69,27 @@ fn kind(call: &Call) -> &'static str {
         Call::ThinGet { .. } => "thin get",
         Call::ThinPut { .. } => "thin put",
         Call::Name { .. } => "name",
+        Call::Header => "header",
     }
 }
 
 impl Display for Statistics {
     fn fmt(&self, out: &mut Formatter) -> fmt::Result {
         writeln!(out, "How often each status came (status: times):")?;
-        for (kind, statuses) in &self.0 {
+        for (kind, statuses) in &self.answers {
             let calls: usize = statuses.values().sum();
             write!(out, "{kind:>22} {calls:>7} |")?;
             for (status, times) in statuses {
                 write!(out, " {status}: {times} ")?;
             }
             writeln!(out)?;
+        }
+        for (image, text) in [
+            (Kind::Raw, "on raw images"),
+            (Kind::AtrSingle, "on ATR, single density"),
+            (Kind::AtrDouble, "on ATR, double density"),
+        ] {
+            writeln!(out, "{text:>22} {:>7}", self.calls_on(image))?;
         }
         Ok(())
     }

@@ -4,7 +4,7 @@
 
 use std::fmt::{self, Display, Formatter};
 
-use model::disk::IMAGE;
+use model::image::Kind;
 
 /// Words of a table of channels.
 pub const TABLE: usize = 40;
@@ -81,6 +81,7 @@ pub enum Call {
         name: Vec<u8>,
         eleven: Buffer,
     },
+    Header,
 }
 
 impl Call {
@@ -92,7 +93,7 @@ impl Call {
             | Call::ThinGet { buffer, .. }
             | Call::ThinPut { buffer, .. }
             | Call::Name { eleven: buffer, .. } => Some(buffer),
-            Call::Recover { .. } | Call::Show { .. } => None,
+            Call::Recover { .. } | Call::Show { .. } | Call::Header => None,
         }
     }
 
@@ -113,7 +114,7 @@ impl Call {
             | Call::ThinGet { buffer, .. }
             | Call::ThinPut { buffer, .. }
             | Call::Name { eleven: buffer, .. } => *buffer = other,
-            Call::Recover { .. } | Call::Show { .. } => (),
+            Call::Recover { .. } | Call::Show { .. } | Call::Header => (),
         }
         call
     }
@@ -127,32 +128,28 @@ pub struct Lengths {
 }
 
 impl Lengths {
-    /// Those of a disk and a table of channels.
-    pub const RIGHT: Lengths = Lengths {
-        image: IMAGE,
-        table: TABLE,
-    };
+    /// Those of an image of the kind and a table of channels.
+    pub fn of(kind: Kind) -> Lengths {
+        Lengths {
+            image: kind.length(),
+            table: TABLE,
+        }
+    }
 }
 
 /// One step of a case.
 #[derive(Clone, Debug, PartialEq, Eq)]
 pub enum Step {
     /// A fresh disk, and all channels closed: where every case begins.
-    Fresh,
-    /// One byte of a sector is set.
-    Poke {
-        sector: u16,
-        byte: u8,
-        value: u8,
-    },
+    Fresh(Kind),
+    /// One byte of a sector is set; those of sector 0 are the header.
+    Poke { sector: u16, byte: u8, value: u8 },
     /// The record of one channel is set.
-    Channel {
-        number: u8,
-        record: [u16; 5],
-    },
+    Channel { number: u8, record: [u16; 5] },
     Call {
         call: Call,
-        lengths: Lengths,
+        /// Those of image and table, where no others are given.
+        lengths: Option<Lengths>,
     },
 }
 
@@ -160,7 +157,7 @@ impl From<Call> for Step {
     fn from(call: Call) -> Step {
         Step::Call {
             call,
-            lengths: Lengths::RIGHT,
+            lengths: None,
         }
     }
 }
@@ -168,7 +165,9 @@ impl From<Call> for Step {
 impl Display for Step {
     fn fmt(&self, out: &mut Formatter) -> fmt::Result {
         match self {
-            Step::Fresh => write!(out, "fresh"),
+            Step::Fresh(Kind::Raw) => write!(out, "fresh"),
+            Step::Fresh(Kind::AtrSingle) => write!(out, "fresh atr"),
+            Step::Fresh(Kind::AtrDouble) => write!(out, "fresh double"),
             Step::Poke {
                 sector,
                 byte,
@@ -176,8 +175,7 @@ impl Display for Step {
             } => write!(out, "poke {sector} {byte} {value}"),
             Step::Channel { number, record } => write!(out, "channel {number} {}", words(record)),
             Step::Call { call, lengths } => {
-                if *lengths != Lengths::RIGHT {
-                    let Lengths { image, table } = lengths;
+                if let Some(Lengths { image, table }) = lengths {
                     write!(out, "lent {image} {table} ")?;
                 }
                 write!(out, "{call}")
@@ -208,6 +206,7 @@ impl Display for Call {
             Call::ThinGet { words: record, .. } => write!(out, "thin-get {}", words(record)),
             Call::ThinPut { words: record, .. } => write!(out, "thin-put {}", words(record)),
             Call::Name { name, .. } => write!(out, "name {}", quoted(name)),
+            Call::Header => write!(out, "header"),
         }?;
         match self.buffer() {
             Some(buffer) => write!(out, " {buffer}"),
@@ -286,14 +285,19 @@ mod tests {
             .to_string(),
             "poke 4 127 9"
         );
-        let lengths = Lengths {
+        let lengths = Some(Lengths {
             image: 92_161,
             table: 39,
-        };
+        });
         let call = Call::Recover { slot: 3 };
         assert_eq!(
             Step::Call { call, lengths }.to_string(),
             "lent 92161 39 recover 3"
+        );
+        assert_eq!(Step::from(Call::Header).to_string(), "header");
+        assert_eq!(
+            Kind::ALL.map(|kind| Step::Fresh(kind).to_string()),
+            ["fresh", "fresh atr", "fresh double"]
         );
         let record = [1, 2, 3, 4, 5];
         assert_eq!(

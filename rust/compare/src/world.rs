@@ -1,6 +1,8 @@
 //! What a list of calls works on, and how a step runs on one side.
 
-use model::disk::{Disk, IMAGE};
+use model::directory::Name;
+use model::disk::SECTORS;
+use model::image::Kind;
 use model::sound::is_sound;
 
 use crate::side::Side;
@@ -8,13 +10,25 @@ use crate::step::{Buffer, Call, Lengths, Step, TABLE};
 
 /// Bytes behind the image and words behind the table, so that more than them can be lent, and
 /// so that a side that writes behind what it is lent is noticed.
-const SPARE: usize = 128;
+pub const SPARE: usize = 128;
 
 /// An image and a table of channels.
 #[derive(Clone)]
 pub struct World {
+    /// What the image was made as, whatever its header says now.
+    pub kind: Kind,
     pub image: Vec<u8>,
     pub table: Vec<u16>,
+}
+
+/// The sector of a byte of the image and its place there; sector 0 is the header.
+pub fn sector_and_byte(kind: Kind, at: usize) -> (u16, usize) {
+    let starts = (1..=SECTORS).map(|sector| (sector, kind.sector_start(sector)));
+    let (sector, start) = starts
+        .rev()
+        .find(|&(_, start)| start <= at)
+        .unwrap_or_default();
+    (sector, at - start)
 }
 
 /// What a call hands back, apart from image and table.
@@ -30,25 +44,63 @@ pub struct Reply {
 
 impl World {
     /// A fresh disk, and all channels closed.
-    pub fn new() -> World {
-        let mut image = model::volume::fresh();
-        image.resize(IMAGE + SPARE, 0);
+    pub fn fresh(kind: Kind) -> World {
+        let mut image = kind.fresh();
+        image.resize(kind.length() + SPARE, 0);
         World {
+            kind,
             image,
             table: vec![0; TABLE + SPARE],
         }
     }
 
     /// The image without the bytes behind it.
-    pub fn disk(&self) -> &Disk {
-        self.image
-            .first_chunk()
-            .expect("the image has its length and more")
+    pub fn image(&self) -> &[u8] {
+        &self.image[..self.kind.length()]
     }
 
     /// Whether disk and channels are sound, as the model tells.
     pub fn is_sound(&self) -> bool {
-        is_sound(&self.image[..IMAGE], &self.table[..TABLE])
+        is_sound(self.image(), &self.table[..TABLE])
+    }
+
+    /// A slot's flag byte.
+    pub fn flag(&self, slot: u8) -> u8 {
+        self.image[self.kind.slot_start(slot)]
+    }
+
+    /// A slot's count of sectors.
+    pub fn count(&self, slot: u8) -> u16 {
+        self.word(self.kind.slot_start(slot) + 1)
+    }
+
+    /// A slot's first sector.
+    pub fn first(&self, slot: u8) -> u16 {
+        self.word(self.kind.slot_start(slot) + 3)
+    }
+
+    /// A slot's eleven bytes of name and extension.
+    pub fn slot_name(&self, slot: u8) -> Name {
+        *self.image[self.kind.slot_start(slot) + 5..]
+            .first_chunk()
+            .expect("eleven bytes of the directory")
+    }
+
+    /// The last three bytes of a sector that is no boot sector.
+    pub fn tail(&self, sector: u16) -> [u8; 3] {
+        *self.image[self.tail_start(sector)..]
+            .first_chunk()
+            .expect("three bytes of the image")
+    }
+
+    /// Where they begin in the image.
+    pub fn tail_start(&self, sector: u16) -> usize {
+        self.kind.sector_start(sector) + self.kind.data()
+    }
+
+    /// A word of the image.
+    pub fn word(&self, at: usize) -> u16 {
+        u16::from_le_bytes([self.image[at], self.image[at + 1]])
     }
 
     /// The record of a channel.
@@ -58,17 +110,25 @@ impl World {
             .expect("one of the eight channels")
     }
 
+    /// Zeros behind the image, as the shell lends them, and as many as are asked for.
+    fn clear_behind_image(&mut self, lent: usize) {
+        let room = self.image.len().max(lent);
+        self.image.resize(room, 0);
+        self.image[self.kind.length()..].fill(0);
+    }
+
     /// The same bytes as another.
     pub fn copy_from(&mut self, other: &World) {
-        self.image.copy_from_slice(&other.image);
-        self.table.copy_from_slice(&other.table);
+        self.kind = other.kind;
+        self.image.clone_from(&other.image);
+        self.table.clone_from(&other.table);
     }
 
     /// Runs one step on a side. A step that is no call has no reply.
     pub fn run(&mut self, side: &dyn Side, step: &Step) -> Option<Reply> {
         match step {
-            Step::Fresh => {
-                *self = World::new();
+            Step::Fresh(kind) => {
+                *self = World::fresh(*kind);
                 None
             }
             Step::Poke {
@@ -76,7 +136,11 @@ impl World {
                 byte,
                 value,
             } => {
-                self.image[usize::from(sector - 1) * 128 + usize::from(*byte)] = *value;
+                let start = match sector {
+                    0 => 0,
+                    _ => self.kind.sector_start(*sector),
+                };
+                self.image[start + usize::from(*byte)] = *value;
                 None
             }
             Step::Channel { number, record } => {
@@ -87,7 +151,9 @@ impl World {
         }
     }
 
-    fn call(&mut self, side: &dyn Side, call: &Call, lengths: Lengths) -> Reply {
+    fn call(&mut self, side: &dyn Side, call: &Call, lengths: Option<Lengths>) -> Reply {
+        let lengths = lengths.unwrap_or(Lengths::of(self.kind));
+        self.clear_behind_image(lengths.image);
         let image = &mut self.image[..lengths.image];
         let table = &mut self.table[..lengths.table];
         let mut buffer = call.buffer().map(Buffer::bytes).unwrap_or_default();
@@ -112,17 +178,12 @@ impl World {
             Call::ThinGet { .. } => side.thin_get(image, &mut words, &mut buffer),
             Call::ThinPut { .. } => side.thin_put(image, &mut words, &mut buffer),
             Call::Name { ref name, .. } => side.name(name, &mut buffer),
+            Call::Header => side.header(image),
         };
         Reply {
             answer,
             buffer,
             words,
         }
-    }
-}
-
-impl Default for World {
-    fn default() -> World {
-        World::new()
     }
 }

@@ -6,9 +6,10 @@ use compare::run::run;
 use compare::shrink::shortest;
 use compare::side::MODEL;
 use compare::statistics::Statistics;
-use compare::step::{Call, Step};
+use compare::step::{Buffer, Call, Step};
 use compare::world::World;
 use model::fault::Fault;
+use model::image::Kind;
 use model::Model;
 
 #[test]
@@ -33,7 +34,7 @@ fn a_fault_is_noticed_and_its_case_shrunk() {
     );
     assert!(!shrunk.difference.0.is_empty());
     let (place, difference) = pair
-        .first_difference(&World::new(), &shrunk.steps, shrunk.sound)
+        .first_difference(&World::fresh(Kind::Raw), &shrunk.steps, shrunk.sound)
         .expect("the short list shows the difference too");
     assert_eq!(place + 1, shrunk.steps.len());
     assert_eq!(difference, shrunk.difference);
@@ -64,9 +65,49 @@ fn a_difference_of_a_showing_is_an_offset_and_a_length() {
 }
 
 #[test]
+fn a_difference_in_the_image_is_a_sector_and_a_byte() {
+    let faulty = Model(Fault::HeaderRestKept);
+    let mut pair = Pair::new(("model", MODEL), ("faulty model", &faulty));
+    let poke = |sector, byte, value| Step::Poke {
+        sector,
+        byte,
+        value,
+    };
+    let steps = [
+        Step::Fresh(Kind::AtrDouble),
+        poke(0, 9, 7),
+        Call::Header.into(),
+    ];
+    let start = World::fresh(Kind::Raw);
+    let (place, difference) = pair.first_difference(&start, &steps, false).unwrap();
+    assert_eq!(place, 2);
+    assert_eq!(difference.0, ["header byte 9: model 0, faulty model 7"]);
+
+    let faulty = Model(Fault::FormatClearsHalves);
+    let mut pair = Pair::new(("model", MODEL), ("faulty model", &faulty));
+    let format = Call::Cio {
+        channel: 0,
+        command: 254,
+        direction: 0,
+        name: b"D:\x9b".to_vec(),
+        buffer: Buffer::Fill(0, 0),
+    };
+    let steps = [
+        Step::Fresh(Kind::AtrDouble),
+        poke(720, 255, 7),
+        format.into(),
+    ];
+    let (_, difference) = pair.first_difference(&start, &steps, false).unwrap();
+    assert_eq!(
+        difference.0,
+        ["image sector 720 byte 255: model 0, faulty model 7"]
+    );
+}
+
+#[test]
 fn a_seed_gives_the_same_case_again() {
     let steps = || {
-        let mut world = World::new();
+        let mut world = World::fresh(Kind::Raw);
         let mut generator = Generator::new(9);
         let mut steps: Vec<Step> = Vec::new();
         while let Some(step) = generator.next(&world) {
@@ -84,46 +125,56 @@ fn every_status_comes_for_every_call_that_has_it() {
     let mut statistics = Statistics::default();
     let mut pair = Pair::new(("model", MODEL), ("model", MODEL));
     assert!(run(&mut pair, 1, 40_000, &mut statistics).is_ok());
-    let expected: [(&str, &[u8]); 19] = [
-        ("close", &[1, 134, 164, 203, 255]),
+    for kind in Kind::ALL {
+        assert!(statistics.calls_on(kind) > 5_000, "{kind:?}");
+    }
+    let expected: [(&str, &[u8]); 20] = [
+        ("close", &[1, 134, 164, 203, 205, 255]),
         (
             "delete",
             &[
-                1, 129, 130, 134, 160, 163, 164, 165, 167, 170, 200, 203, 255,
+                1, 129, 130, 134, 160, 163, 164, 165, 167, 170, 200, 203, 205, 255,
             ],
         ),
-        ("format", &[1, 129, 130, 134, 160, 165, 200, 203, 255]),
-        ("get", &[1, 131, 133, 134, 136, 164, 203, 255]),
+        ("format", &[1, 129, 130, 134, 160, 165, 200, 203, 205, 255]),
+        ("get", &[1, 131, 133, 134, 136, 164, 203, 205, 255]),
+        ("header", &[1, 203]),
         (
             "lock",
-            &[1, 129, 130, 134, 160, 163, 165, 170, 200, 203, 255],
+            &[1, 129, 130, 134, 160, 163, 165, 170, 200, 203, 205, 255],
         ),
         ("name", &[1, 130, 160, 165, 255]),
-        ("open 4", &[1, 129, 130, 134, 160, 165, 170, 200, 203, 255]),
+        (
+            "open 4",
+            &[1, 129, 130, 134, 160, 165, 170, 200, 203, 205, 255],
+        ),
         (
             "open 8",
             &[
-                1, 129, 130, 134, 160, 162, 163, 164, 165, 167, 169, 200, 203, 255,
+                1, 129, 130, 134, 160, 162, 163, 164, 165, 167, 169, 200, 203, 205, 255,
             ],
         ),
-        ("open, other direction", &[129, 134, 168, 203, 255]),
-        ("other commands", &[132, 134, 168, 203, 255]),
-        ("put", &[1, 133, 134, 135, 162, 163, 164, 203, 255]),
-        ("recover", &[1, 163, 165, 170, 201, 202, 203]),
+        ("open, other direction", &[129, 134, 168, 203, 205, 255]),
+        ("other commands", &[132, 134, 168, 203, 205, 255]),
+        ("put", &[1, 133, 134, 135, 162, 163, 164, 203, 205, 255]),
+        ("recover", &[1, 163, 165, 170, 201, 202, 203, 205]),
         (
             "rename",
             &[
-                1, 129, 130, 134, 160, 163, 165, 167, 170, 200, 201, 203, 255,
+                1, 129, 130, 134, 160, 163, 165, 167, 170, 200, 201, 203, 205, 255,
             ],
         ),
-        ("sector", &[1, 138, 139, 203, 204]),
+        ("sector", &[1, 138, 139, 203, 204, 205]),
         ("show", &[0, 1]),
-        ("status", &[1, 129, 130, 134, 160, 165, 167, 170, 203, 255]),
-        ("thin get", &[1, 131, 133, 136, 164, 203, 255]),
-        ("thin put", &[1, 133, 135, 162, 163, 164, 203, 255]),
+        (
+            "status",
+            &[1, 129, 130, 134, 160, 165, 167, 170, 203, 205, 255],
+        ),
+        ("thin get", &[1, 131, 133, 136, 164, 203, 205, 255]),
+        ("thin put", &[1, 133, 135, 162, 163, 164, 203, 205, 255]),
         (
             "unlock",
-            &[1, 129, 130, 134, 160, 163, 165, 170, 200, 203, 255],
+            &[1, 129, 130, 134, 160, 163, 165, 170, 200, 203, 205, 255],
         ),
     ];
     for (kind, statuses) in expected {

@@ -1,16 +1,18 @@
 //! The commands that work on one image file.
 
 use crate::{
+    arguments::Arguments,
     contents::read_file,
     directory,
     dump::dump,
     failure::{numbered_recovery, About, Failure},
+    header,
     image_file::{self, ImageFile},
     syntax, whole_file,
 };
-use hilugsaban::{padded_name, Direction, Disk, Status, SECTOR_BYTES};
+use hilugsaban::{padded_name, Direction, Disk, Kind, Status};
 use std::{
-    ffi::{OsStr, OsString},
+    ffi::OsStr,
     fs::File,
     io::{self, Read, Write},
     path::Path,
@@ -21,12 +23,20 @@ type Outcome = Result<(), Failure>;
 /// Where no channel is open, any serves.
 const CHANNEL: u8 = 0;
 
-/// Bytes of a file that has all 707 sectors.
-const LONGEST_FILE: u64 = 707 * 125;
+/// The options of `new`.
+pub const ATR: &str = "--atr";
+pub const DOUBLE: &str = "--double";
+
+/// The disk in these bytes of a file, if its header is right.
+fn disk(bytes: Vec<u8>, image: &OsStr) -> Result<Disk<Vec<u8>>, Failure> {
+    let mut disk = Disk::new(bytes);
+    header::require(&mut disk).about(image.display())?;
+    Ok(disk)
+}
 
 /// Reads an image to look at it.
 fn load(image: &OsStr) -> Result<Disk<Vec<u8>>, Failure> {
-    Ok(Disk::new(image_file::read(Path::new(image))?))
+    disk(image_file::read(Path::new(image))?, image)
 }
 
 /// Changes an image: it is written back if every call succeeded.
@@ -35,7 +45,7 @@ fn edit<T>(
     calls: impl FnOnce(&mut Disk<Vec<u8>>) -> Result<T, Failure>,
 ) -> Result<T, Failure> {
     let (mut file, bytes) = ImageFile::open(Path::new(image))?;
-    let mut disk = Disk::new(bytes);
+    let mut disk = disk(bytes, image)?;
     let answer = calls(&mut disk)?;
     file.write_back(disk.image())?;
     Ok(answer)
@@ -49,19 +59,49 @@ fn name(argument: &OsStr) -> Result<&str, Failure> {
         .about(argument.display())
 }
 
-pub fn new(arguments: &[OsString], _: &mut dyn Write) -> Outcome {
-    image_file::create(Path::new(&arguments[0]), Disk::fresh().image())
+pub fn new(arguments: &Arguments, _: &mut dyn Write) -> Outcome {
+    let kind = match (arguments.has(ATR), arguments.has(DOUBLE)) {
+        (_, true) => Kind::AtrDouble,
+        (true, false) => Kind::AtrSingle,
+        (false, false) => Kind::Raw,
+    };
+    let disk = Disk::fresh_as(kind);
+    image_file::create(Path::new(&arguments.operands[0]), disk.image())
 }
 
-pub fn list(arguments: &[OsString], out: &mut dyn Write) -> Outcome {
-    directory::list(&load(&arguments[0])?, out)
+pub fn convert(arguments: &Arguments, _: &mut dyn Write) -> Outcome {
+    let image = &arguments.operands[0];
+    let disk = load(image)?;
+    let converted = other_form(&disk).about(image.display())?;
+    image_file::create(Path::new(&arguments.operands[1]), converted.image())
 }
 
-pub fn get(arguments: &[OsString], out: &mut dyn Write) -> Outcome {
-    let name = name(&arguments[1])?;
-    let image = &arguments[0];
+/// The same sectors in an image of the other kind of single density.
+fn other_form(disk: &Disk<Vec<u8>>) -> Result<Disk<Vec<u8>>, Failure> {
+    let (from, to) = match disk.kind() {
+        Some(Kind::Raw) => (Kind::Raw, Kind::AtrSingle),
+        Some(Kind::AtrSingle) => (Kind::AtrSingle, Kind::Raw),
+        _ => {
+            return Err(Failure::new(
+                "a double density disk has no raw form: its sectors of 256 bytes have no place in a raw image, whose sectors have 128",
+            ))
+        }
+    };
+    let mut converted = Disk::fresh_as(to);
+    let sectors = &disk.image()[from.header_bytes()..];
+    converted.image_mut()[to.header_bytes()..].copy_from_slice(sectors);
+    Ok(converted)
+}
+
+pub fn list(arguments: &Arguments, out: &mut dyn Write) -> Outcome {
+    directory::list(&load(&arguments.operands[0])?, out)
+}
+
+pub fn get(arguments: &Arguments, out: &mut dyn Write) -> Outcome {
+    let name = name(&arguments.operands[1])?;
+    let image = &arguments.operands[0];
     let bytes = read_file(&mut load(image)?, name)?;
-    match arguments.get(2) {
+    match arguments.operands.get(2) {
         Some(file) if file == "-" => Ok(out.write_all(&bytes)?),
         Some(file) if whole_file::same(Path::new(image), Path::new(file)) => {
             let file = file.display();
@@ -75,23 +115,23 @@ pub fn get(arguments: &[OsString], out: &mut dyn Write) -> Outcome {
     }
 }
 
-pub fn put(arguments: &[OsString], _: &mut dyn Write) -> Outcome {
-    let file = &arguments[1];
-    if file == "-" && arguments.len() < 3 {
+pub fn put(arguments: &Arguments, _: &mut dyn Write) -> Outcome {
+    let file = &arguments.operands[1];
+    if file == "-" && arguments.operands.len() < 3 {
         return Err(Failure::new("standard input needs a NAME"));
     }
     let own_name = Path::new(file)
         .file_name()
         .unwrap_or(file)
         .to_ascii_uppercase();
-    let name = name(arguments.get(2).unwrap_or(&own_name))?;
+    let name = name(arguments.operands.get(2).unwrap_or(&own_name))?;
     let bytes = if file == "-" {
         read_input(io::stdin().lock())
     } else {
         File::open(file).and_then(read_input)
     }
     .about(file.display())?;
-    edit(&arguments[0], |disk| {
+    edit(&arguments.operands[0], |disk| {
         disk.open(CHANNEL, Direction::Write, name).about(name)?;
         disk.put(CHANNEL, &bytes).about(name)?;
         disk.close(CHANNEL).about(name)
@@ -100,30 +140,31 @@ pub fn put(arguments: &[OsString], _: &mut dyn Write) -> Outcome {
 
 /// Reads the bytes to put, but of an input that no disk can hold only the first byte too many, which the put refuses.
 fn read_input(input: impl Read) -> io::Result<Vec<u8>> {
+    const LONGEST: usize = Kind::AtrDouble.longest_file();
     let mut bytes = Vec::new();
-    input.take(LONGEST_FILE + 1).read_to_end(&mut bytes)?;
+    input.take(LONGEST as u64 + 1).read_to_end(&mut bytes)?;
     Ok(bytes)
 }
 
-pub fn delete(arguments: &[OsString], _: &mut dyn Write) -> Outcome {
+pub fn delete(arguments: &Arguments, _: &mut dyn Write) -> Outcome {
     on_names(arguments, Disk::delete)
 }
 
-pub fn lock(arguments: &[OsString], _: &mut dyn Write) -> Outcome {
+pub fn lock(arguments: &Arguments, _: &mut dyn Write) -> Outcome {
     on_names(arguments, Disk::lock)
 }
 
-pub fn unlock(arguments: &[OsString], _: &mut dyn Write) -> Outcome {
+pub fn unlock(arguments: &Arguments, _: &mut dyn Write) -> Outcome {
     on_names(arguments, Disk::unlock)
 }
 
 /// Makes the same call for each name behind the image.
 fn on_names(
-    arguments: &[OsString],
+    arguments: &Arguments,
     call: fn(&mut Disk<Vec<u8>>, &str) -> Result<(), Status>,
 ) -> Outcome {
-    edit(&arguments[0], |disk| {
-        for argument in &arguments[1..] {
+    edit(&arguments.operands[0], |disk| {
+        for argument in &arguments.operands[1..] {
             let name = name(argument)?;
             call(disk, name).about(name)?;
         }
@@ -131,16 +172,16 @@ fn on_names(
     })
 }
 
-pub fn rename(arguments: &[OsString], _: &mut dyn Write) -> Outcome {
-    let (old, new) = (name(&arguments[1])?, name(&arguments[2])?);
-    edit(&arguments[0], |disk| {
+pub fn rename(arguments: &Arguments, _: &mut dyn Write) -> Outcome {
+    let (old, new) = (name(&arguments.operands[1])?, name(&arguments.operands[2])?);
+    edit(&arguments.operands[0], |disk| {
         disk.rename(old, new).about(format!("{old} to {new}"))
     })
 }
 
-pub fn recover(arguments: &[OsString], out: &mut dyn Write) -> Outcome {
-    let which = name(&arguments[1])?;
-    let (slot, sectors) = edit(&arguments[0], |disk| {
+pub fn recover(arguments: &Arguments, out: &mut dyn Write) -> Outcome {
+    let which = name(&arguments.operands[1])?;
+    let (slot, sectors) = edit(&arguments.operands[0], |disk| {
         let slot = if which.starts_with(|first: char| first.is_ascii_digit() || first == '$') {
             syntax::number(which)?
         } else {
@@ -185,11 +226,10 @@ fn deleted_slot(disk: &mut Disk<Vec<u8>>, name: &str) -> Result<u8, Failure> {
     }
 }
 
-pub fn sector(arguments: &[OsString], out: &mut dyn Write) -> Outcome {
-    let number: u16 = syntax::number(name(&arguments[1])?)?;
-    let mut bytes = [0; SECTOR_BYTES];
-    load(&arguments[0])?
-        .read_sector(number, &mut bytes)
+pub fn sector(arguments: &Arguments, out: &mut dyn Write) -> Outcome {
+    let number: u16 = syntax::number(name(&arguments.operands[1])?)?;
+    let bytes = load(&arguments.operands[0])?
+        .whole_sector(number)
         .about(format!("sector {number}"))?;
     Ok(dump(&bytes, out)?)
 }

@@ -1,12 +1,13 @@
 //! A file deleted and recovered, told in some lines. Every answer shown is the library's.
 
 use crate::{
+    arguments::Arguments,
     contents::read_file,
     directory,
     failure::{numbered, About, Failure},
 };
 use hilugsaban::{Direction, Disk, Status};
-use std::{ffi::OsString, io::Write};
+use std::io::Write;
 
 const CHANNEL: u8 = 0;
 
@@ -19,7 +20,7 @@ struct Demo<'a> {
 }
 
 /// `desk demo`.
-pub fn run(_: &[OsString], out: &mut dyn Write) -> Result<(), Failure> {
+pub fn run(_: &Arguments, out: &mut dyn Write) -> Result<(), Failure> {
     let mut demo = Demo {
         disk: Disk::fresh(),
         out,

@@ -4,11 +4,13 @@ use crate::{
     contents::read_to_end,
     failure::{numbered, numbered_recovery, About, Failure},
 };
-use hilugsaban::{Channel, Disk, Incomplete, Status, SECTOR_BYTES};
+use hilugsaban::{Channel, Disk, Incomplete, Status};
 use std::io::Write;
 
 const VOLUME_TABLE: u16 = 360;
 const DIRECTORY: std::ops::RangeInclusive<u16> = 361..=368;
+/// What the directory uses of each of its sectors, in double density the first half.
+const DIRECTORY_BYTES: usize = 128;
 const SLOT_BYTES: usize = 16;
 
 /// A slot of the directory.
@@ -64,19 +66,13 @@ impl Slot {
 pub fn slots(disk: &mut Disk<Vec<u8>>) -> Result<Vec<Slot>, Status> {
     let mut bytes = Vec::new();
     for sector in DIRECTORY {
-        bytes.extend(sector_bytes(disk, sector)?);
+        bytes.extend(&disk.whole_sector(sector)?[..DIRECTORY_BYTES]);
     }
     let slots = (0..).zip(bytes.chunks_exact(SLOT_BYTES));
     Ok(slots
         .map(|(number, bytes)| Slot::from_bytes(number, bytes))
         .take_while(|slot| slot.flag != 0)
         .collect())
-}
-
-fn sector_bytes(disk: &mut Disk<Vec<u8>>, sector: u16) -> Result<[u8; SECTOR_BYTES], Status> {
-    let mut bytes = [0; SECTOR_BYTES];
-    disk.read_sector(sector, &mut bytes)?;
-    Ok(bytes)
 }
 
 /// Prints a line for each file and deleted file, and the free sectors. Whether a deleted file can be recovered is found by
@@ -99,7 +95,7 @@ pub fn list(disk: &Disk<Vec<u8>>, out: &mut dyn Write) -> Result<(), Failure> {
         );
         writeln!(out, "{}", line.trim_end())?;
     }
-    let table = sector_bytes(&mut disk, VOLUME_TABLE).about("volume table")?;
+    let table = disk.whole_sector(VOLUME_TABLE).about("volume table")?;
     let free = u16::from_le_bytes([table[3], table[4]]);
     if table_is_good(&disk) {
         writeln!(out, "{free} free sectors")?;

@@ -42,6 +42,10 @@ impl Exact<'_> {
             ("thin-get", [words @ .., buffer]) => self.thin_get(record(words)?, buffer),
             ("thin-put", [words @ .., buffer]) => self.thin_put(record(words)?, buffer),
             ("name", [name, eleven]) => self.name(&name.bytes, eleven),
+            ("header", []) => {
+                let word = self.lend(|image, _| raw::header(image));
+                self.answer(word)
+            }
             _ => {
                 let count = arguments.len();
                 Err(Failure::new(format!(

@@ -78,6 +78,12 @@ impl<T> About<T> for Result<T, Incomplete> {
     }
 }
 
+impl<T> About<T> for Result<T, Failure> {
+    fn about(self, what: impl Display) -> Result<T, Failure> {
+        self.map_err(|failure| Failure(format!("{what}: {failure}")))
+    }
+}
+
 impl<T> About<T> for io::Result<T> {
     fn about(self, what: impl Display) -> Result<T, Failure> {
         self.map_err(|error| Failure(format!("{what}: {error}")))

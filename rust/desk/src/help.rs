@@ -1,21 +1,25 @@
 //! The commands with their help.
 
-use crate::{commands, demo, failure::Failure, shell};
-use std::{
-    ffi::{OsStr, OsString},
-    io::Write,
+use crate::{
+    arguments::Arguments,
+    commands::{self, ATR, DOUBLE},
+    demo,
+    failure::Failure,
+    shell,
 };
+use std::{ffi::OsStr, io::Write};
 
 /// A command of the program.
 pub struct Command {
     pub name: &'static str,
     pub arguments: &'static str,
+    pub options: &'static [&'static str],
     /// Fewest and most arguments.
     pub least: usize,
     pub most: usize,
     pub summary: &'static str,
     pub details: &'static str,
-    pub run: fn(&[OsString], &mut dyn Write) -> Result<(), Failure>,
+    pub run: fn(&Arguments, &mut dyn Write) -> Result<(), Failure>,
 }
 
 impl Command {
@@ -38,7 +42,8 @@ pub fn find(name: &OsStr) -> Option<&'static Command> {
 /// What `desk --help` prints.
 pub fn overview() -> String {
     let mut text = String::from(
-        "desk works on files of Atari DOS 2 disk images: 92,160 bytes, single density, no header.\n\nusage:\n",
+        "desk works on files of Atari DOS 2 disk images: raw images of 92,160 bytes, and ATR files of single density\n\
+         (92,176 bytes) and of double density (183,952 bytes).\n\nusage:\n",
     );
     for command in COMMANDS {
         let usage = format!("{} {}", command.name, command.arguments);
@@ -55,16 +60,30 @@ an image is written back only when everything succeeded.
 const COMMANDS: &[Command] = &[
     Command {
         name: "new",
-        arguments: "IMAGE",
+        arguments: "[--atr|--double] IMAGE",
+        options: &[ATR, DOUBLE],
         least: 1,
         most: 1,
         summary: "Make a fresh image",
-        details: "It has no files and 707 free sectors. The file must not exist yet.\n",
+        details: "It has no files and 707 free sectors: a raw image of single density, with --atr an ATR file of single\n\
+                  density, with --double an ATR file of double density. The file must not exist yet.\n",
         run: commands::new,
+    },
+    Command {
+        name: "convert",
+        arguments: "IMAGE FILE",
+        options: &[],
+        least: 2,
+        most: 2,
+        summary: "Make an ATR file of a raw image, or a raw image of an ATR file",
+        details: "The sectors are the same in both. FILE must not exist yet, and IMAGE stays as it is.\n\
+                  A disk of double density cannot be converted: it has no raw form.\n",
+        run: commands::convert,
     },
     Command {
         name: "list",
         arguments: "IMAGE",
+        options: &[],
         least: 1,
         most: 1,
         summary: "List the files of an image",
@@ -75,6 +94,7 @@ const COMMANDS: &[Command] = &[
     Command {
         name: "get",
         arguments: "IMAGE NAME [FILE]",
+        options: &[],
         least: 2,
         most: 3,
         summary: "Copy a file out of an image",
@@ -86,6 +106,7 @@ const COMMANDS: &[Command] = &[
     Command {
         name: "put",
         arguments: "IMAGE FILE [NAME]",
+        options: &[],
         least: 2,
         most: 3,
         summary: "Copy a file into an image",
@@ -96,6 +117,7 @@ const COMMANDS: &[Command] = &[
     Command {
         name: "delete",
         arguments: "IMAGE NAME...",
+        options: &[],
         least: 2,
         most: usize::MAX,
         summary: "Delete files",
@@ -105,6 +127,7 @@ const COMMANDS: &[Command] = &[
     Command {
         name: "recover",
         arguments: "IMAGE SLOT|NAME",
+        options: &[],
         least: 2,
         most: 2,
         summary: "Take a deleted file back",
@@ -115,6 +138,7 @@ const COMMANDS: &[Command] = &[
     Command {
         name: "rename",
         arguments: "IMAGE OLD NEW",
+        options: &[],
         least: 3,
         most: 3,
         summary: "Rename a file",
@@ -124,6 +148,7 @@ const COMMANDS: &[Command] = &[
     Command {
         name: "lock",
         arguments: "IMAGE NAME...",
+        options: &[],
         least: 2,
         most: usize::MAX,
         summary: "Lock files against writing, renaming and deleting",
@@ -133,6 +158,7 @@ const COMMANDS: &[Command] = &[
     Command {
         name: "unlock",
         arguments: "IMAGE NAME...",
+        options: &[],
         least: 2,
         most: usize::MAX,
         summary: "Unlock files",
@@ -142,15 +168,18 @@ const COMMANDS: &[Command] = &[
     Command {
         name: "sector",
         arguments: "IMAGE N",
+        options: &[],
         least: 2,
         most: 2,
         summary: "Print the bytes of a sector",
-        details: "N is 1 to 720, also in hexadecimal ($168 or 0x168).\n",
+        details: "N is 1 to 720, also in hexadecimal ($168 or 0x168). In double density sectors 1 to 3 have 128 bytes\n\
+                  and the others 256.\n",
         run: commands::sector,
     },
     Command {
         name: "shell",
         arguments: "[IMAGE]",
+        options: &[],
         least: 0,
         most: 1,
         summary: "Make calls one by one",
@@ -160,6 +189,7 @@ const COMMANDS: &[Command] = &[
     Command {
         name: "demo",
         arguments: "",
+        options: &[],
         least: 0,
         most: 0,
         summary: "Show a file deleted and recovered, on a disk in memory",

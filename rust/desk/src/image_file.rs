@@ -4,20 +4,22 @@ use crate::{
     failure::{numbered, About, Failure},
     whole_file,
 };
-use hilugsaban::{Status, IMAGE_BYTES};
+use hilugsaban::{Kind, Status};
 use std::{
     fs::{self, File, OpenOptions, TryLockError},
     io::{self, Read},
-    ops::RangeInclusive,
     os::unix::fs::MetadataExt,
     path::{Path, PathBuf},
 };
 
-/// The length of an image.
-const IMAGE: RangeInclusive<u64> = IMAGE_BYTES as u64..=IMAGE_BYTES as u64;
+/// Whether a file of so many bytes is read.
+type Length = fn(usize) -> bool;
+
+/// The lengths of images.
+const IMAGE: Length = |bytes| Kind::of_length(bytes).is_some();
 
 /// The lengths of a file that the shell serves: there the library refuses a wrong one, call by call.
-const ANY: RangeInclusive<u64> = 0..=1 << 20;
+const ANY: Length = |bytes| bytes <= 1 << 20;
 
 /// The image in a file, to look at it.
 pub fn read(path: &Path) -> Result<Vec<u8>, Failure> {
@@ -56,7 +58,7 @@ impl ImageFile {
         .about(path.display())
     }
 
-    fn open_locked(path: &Path, lengths: RangeInclusive<u64>) -> io::Result<(ImageFile, Vec<u8>)> {
+    fn open_locked(path: &Path, is_read: Length) -> io::Result<(ImageFile, Vec<u8>)> {
         let path = fs::canonicalize(path)?;
         // For writing too, so that a file without that permission is refused here and not replaced later.
         let mut file = open_regular(&path, OpenOptions::new().read(true).write(true))?;
@@ -65,7 +67,7 @@ impl ImageFile {
         if fs::metadata(&path)?.ino() != file.metadata()?.ino() {
             return Err(in_use());
         }
-        let image = read_all(&mut file, lengths)?;
+        let image = read_all(&mut file, is_read)?;
         let file = Some(file);
         Ok((ImageFile { path, file }, image))
     }
@@ -101,11 +103,11 @@ fn open_regular(path: &Path, options: &OpenOptions) -> io::Result<File> {
     options.open(path)
 }
 
-/// The bytes of a file, if it has one of these lengths. The length is looked at first, so that a file of any length can be
+/// The bytes of a file, if it has a length that is read. The length is looked at first, so that a file of any length can be
 /// named without harm.
-fn read_all(file: &mut File, lengths: RangeInclusive<u64>) -> io::Result<Vec<u8>> {
+fn read_all(file: &mut File, is_read: Length) -> io::Result<Vec<u8>> {
     let length = file.metadata()?.len();
-    if !lengths.contains(&length) {
+    if !usize::try_from(length).is_ok_and(is_read) {
         let refusal = numbered(Status::BadImage);
         return Err(io::Error::other(format!("{refusal} ({length})")));
     }

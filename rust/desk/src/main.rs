@@ -2,6 +2,7 @@
 //! proved library, and writes the image back when all of them succeeded.
 #![forbid(unsafe_code)]
 
+mod arguments;
 mod commands;
 mod contents;
 mod demo;
@@ -9,6 +10,7 @@ mod directory;
 mod dump;
 mod exact;
 mod failure;
+mod header;
 mod help;
 mod image_file;
 mod shell;
@@ -22,6 +24,7 @@ use std::{
     process::ExitCode,
 };
 
+use arguments::{is_help, Arguments};
 use failure::Failure;
 use help::Command;
 
@@ -51,8 +54,8 @@ fn run(arguments: &[OsString], out: &mut dyn Write) -> Result<(), Failure> {
         return Ok(write!(out, "{text}")?);
     }
     let command = command_named(first)?;
-    match operands(command, rest)? {
-        Some(operands) => (command.run)(&operands, out),
+    match Arguments::read(command, rest)? {
+        Some(arguments) => (command.run)(&arguments, out),
         None => Ok(write!(out, "{}", command.help())?),
     }
 }
@@ -60,33 +63,4 @@ fn run(arguments: &[OsString], out: &mut dyn Write) -> Result<(), Failure> {
 fn command_named(name: &OsStr) -> Result<&'static Command, Failure> {
     let unknown = || format!("no command {}: see desk --help", name.display());
     Ok(help::find(name).ok_or_else(unknown)?)
-}
-
-/// The arguments of a command as many as it takes, or none where help is asked for. Behind -- nothing is an option.
-fn operands(command: &Command, words: &[OsString]) -> Result<Option<Vec<OsString>>, Failure> {
-    let mut operands = Vec::new();
-    let mut words = words.iter();
-    while let Some(word) = words.next() {
-        if is_help(word) {
-            return Ok(None);
-        } else if word == "--" {
-            operands.extend(words.by_ref().cloned());
-        } else if word != "-" && word.as_encoded_bytes().starts_with(b"-") {
-            let name = command.name;
-            return Err(Failure::new(format!(
-                "no option {}: see desk {name} --help",
-                word.display()
-            )));
-        } else {
-            operands.push(word.clone());
-        }
-    }
-    if operands.len() < command.least || operands.len() > command.most {
-        return Err(Failure::new(command.usage()));
-    }
-    Ok(Some(operands))
-}
-
-fn is_help(word: &OsString) -> bool {
-    word == "--help" || word == "-h"
 }

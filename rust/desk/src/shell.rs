@@ -1,16 +1,16 @@
 //! Calls made one by one from lines of text.
 
 use crate::{
+    arguments::Arguments,
     directory,
     dump::dump,
     exact::{print_answer, Exact, Lengths, Understood},
-    failure::{About, Failure},
+    failure::{numbered, About, Failure},
     image_file::{self, ImageFile},
     syntax::{self, value, Word},
 };
 use hilugsaban::{
-    command, Answer, Channel, Direction, Disk, Status, CHANNELS, CLOSED, IMAGE_BYTES, READING,
-    SECTOR_BYTES, WRITING,
+    command, Answer, Channel, Direction, Disk, Kind, Status, CHANNELS, CLOSED, READING, WRITING,
 };
 use std::{
     ffi::OsString,
@@ -21,7 +21,7 @@ use std::{
 pub const HELP: &str = "\
 One call a line, from the terminal or from standard input; lines that begin with # are passed over. Each
 call prints its status number, its message and its count; bytes that it handed out follow, indented.
-Without IMAGE a fresh disk in memory is used. Nothing is written to a file but by save. The exit status is
+Without IMAGE a fresh raw image in memory is used. Nothing is written to a file but by save. The exit status is
 1 where a line could not be understood or carried out; a refused call is no failure here.
 
 Files
@@ -44,14 +44,16 @@ Calls with every argument as it is; behind a get or a sector read follows the wh
   thin-put KIND SLOT SECTOR OFFSET LEFT BUFFER
                                read or write by a channel record of its own
   name \"NAME\" BUFFER           take a name apart; BUFFER has eleven bytes
+  header                       write the header of an ATR file
   lent BYTES WORDS CALL        one of these calls, lent so many bytes of the image and words of the table
 
 The disk and its channels
-  poke SECTOR BYTE VALUE       change one byte of a sector
+  poke SECTOR BYTE VALUE       change one byte of a sector; sector 0 is the header of an ATR file
   channel N KIND SLOT SECTOR OFFSET LEFT
                                change a channel; KIND is 0 closed, 1 reading, 2 writing
   table                        the eight channels
-  fresh                        another disk: fresh, with all channels closed
+  fresh [atr|double]           another disk: fresh, with all channels closed; a raw image, or an ATR file of
+                               single or double density. An image in a file stays what it is
   save [FILE]                  write the image back, or to a new FILE
   help, quit
 
@@ -68,8 +70,8 @@ struct Shell<'a> {
 }
 
 /// `desk shell`: reads lines to the end or to `quit`.
-pub fn run(arguments: &[OsString], out: &mut dyn Write) -> Result<(), Failure> {
-    let mut shell = Shell::new(arguments.first(), out)?;
+pub fn run(arguments: &Arguments, out: &mut dyn Write) -> Result<(), Failure> {
+    let mut shell = Shell::new(arguments.operands.first(), out)?;
     let mut input = io::stdin().lock();
     let terminal = input.is_terminal();
     let mut failed = 0;
@@ -102,6 +104,15 @@ fn next_line(input: &mut dyn BufRead, terminal: bool) -> Result<Option<Vec<u8>>,
     let mut line = Vec::new();
     let length = input.read_until(b'\n', &mut line).about("standard input")?;
     Ok((length > 0).then_some(line))
+}
+
+/// What a fresh disk can be made as.
+fn kind_named(word: &str) -> Result<Kind, Failure> {
+    match word {
+        "atr" => Ok(Kind::AtrSingle),
+        "double" => Ok(Kind::AtrDouble),
+        other => Err(Failure::new(format!("{other}: neither atr nor double"))),
+    }
 }
 
 impl<'a> Shell<'a> {
@@ -176,7 +187,8 @@ impl<'a> Shell<'a> {
                 self.channel(value(n)?, channel)
             }
             ("table", []) => self.table(),
-            ("fresh", []) => self.fresh(),
+            ("fresh", []) => self.fresh(Kind::Raw),
+            ("fresh", [kind]) => self.fresh(kind_named(kind.text()?)?),
             ("list", []) => directory::list(&self.disk, self.out),
             ("save", []) => self.save(),
             ("save", [file]) => self.save_new(Path::new(file.text()?)),
@@ -242,20 +254,16 @@ impl<'a> Shell<'a> {
         self.status(answer.map(|()| 0))
     }
 
-    /// Changes a byte by reading its sector and writing it back.
+    /// Changes a byte of a sector or of the header. It is no call, so a header that does not agree does not hinder it.
     fn poke(&mut self, sector: u16, byte: u8, new: u8) -> Understood {
-        let mut bytes = [0; SECTOR_BYTES];
-        let place = usize::from(byte);
-        if place >= SECTOR_BYTES {
-            return Err(Failure::new(format!(
-                "{place}: a sector has bytes 0 to 127"
-            )));
-        }
-        let answer = self.disk.read_sector(sector, &mut bytes).and_then(|_| {
-            bytes[place] = new;
-            self.disk.write_sector(sector, &bytes)
-        });
-        self.status(answer)
+        let kind = self.disk.kind().ok_or_else(|| numbered(Status::BadImage))?;
+        let place = match sector {
+            0 => Some(usize::from(byte)).filter(|&byte| byte < kind.header_bytes()),
+            _ => kind.offset(sector, byte.into()),
+        };
+        let nowhere = || format!("{kind}: sector {sector} has no byte {byte}");
+        self.disk.image_mut()[place.ok_or_else(nowhere)?] = new;
+        Ok(writeln!(self.out, "sector {sector} byte {byte} is {new}")?)
     }
 
     fn channel(&mut self, n: u8, channel: Channel) -> Understood {
@@ -291,15 +299,15 @@ impl<'a> Shell<'a> {
         Ok(writeln!(self.out, "{n}  {state}")?)
     }
 
-    /// Begins again with another disk. It is no call, so no channel hinders it; a file of another length, which may be no
+    /// Begins again with another disk. It is no call, so no channel hinders it; a file of another kind, or one that is no
     /// image at all, is not to be overwritten by the next save.
-    fn fresh(&mut self) -> Understood {
-        if self.disk.image().len() != IMAGE_BYTES {
+    fn fresh(&mut self, kind: Kind) -> Understood {
+        if self.file.is_some() && self.disk.kind() != Some(kind) {
             return Err(Failure::new(format!(
-                "the file is not {IMAGE_BYTES} bytes long and stays as it is"
+                "the file is no {kind} and stays as it is"
             )));
         }
-        self.disk = Disk::fresh();
+        self.disk = Disk::fresh_as(kind);
         Ok(writeln!(self.out, "a fresh disk with all channels closed")?)
     }
 

@@ -67,8 +67,9 @@ statuses! {
     FileHeld = 200, "the file is open, or for a format a channel";
     NameTaken = 201, "another file has this name";
     LostChain = 202, "not all sectors of the deleted file are still free and its own";
-    BadImage = 203, "the image is not 92160 bytes long";
-    BadLength = 204, "the buffer is not 128 bytes long";
+    BadImage = 203, "the image is not 92160, 92176 or 183952 bytes long";
+    BadLength = 204, "the buffer is not as long as the sector";
+    BadHeader = 205, "the image's header does not agree with its length";
     BadArgument = 255, "a channel of no known kind, or a table, channel or name buffer of the wrong length";
 }
 
@@ -105,9 +106,11 @@ impl From<Status> for io::Error {
             Status::NameTaken => AlreadyExists,
             Status::DiskFull | Status::NoSlot => StorageFull,
             Status::EndOfFile => UnexpectedEof,
-            Status::BadTable | Status::BadChain | Status::LostChain | Status::BadImage => {
-                InvalidData
-            }
+            Status::BadTable
+            | Status::BadChain
+            | Status::LostChain
+            | Status::BadImage
+            | Status::BadHeader => InvalidData,
             _ => InvalidInput,
         };
         io::Error::new(kind, status)

@@ -3,7 +3,7 @@
 use crate::{
     answer::{Answer, Incomplete},
     name::lent,
-    raw, Channel, Reader, Status, Table, Writer, IMAGE_BYTES,
+    raw, Channel, Kind, Reader, Status, Table, Writer,
 };
 
 /// Numbers of the commands, for [`Disk::cio`] and [`Disk::sector`].
@@ -51,7 +51,8 @@ pub enum Direction {
 /// A disk image, owned or borrowed, with its table of channels.
 ///
 /// `B` is anything that lends bytes: `Vec<u8>`, `Box<[u8]>`, `&mut [u8]`; a `&[u8]` can be shown and read by thin calls. An
-/// image of another length than 92,160 bytes is refused by each call.
+/// image that has not the length of one of the three [kinds](Kind) is refused by each call, as is an ATR file whose header
+/// does not agree with its length.
 ///
 /// ```
 /// use hilugsaban::{Direction, Disk, Status};
@@ -65,6 +66,7 @@ pub enum Direction {
 /// assert_eq!(&bytes[3 * 128..][..5], b"three");
 ///
 /// assert_eq!(Disk::new([0; 100]).delete("A"), Err(Status::BadImage));
+/// assert_eq!(Disk::new([0; 92176]).delete("A"), Err(Status::BadHeader));
 /// # Ok::<(), Box<dyn std::error::Error>>(())
 /// ```
 #[derive(Clone, Debug)]
@@ -74,11 +76,29 @@ pub struct Disk<B> {
 }
 
 impl Disk<Vec<u8>> {
-    /// A freshly formatted disk.
+    /// A freshly formatted disk in a raw image.
     pub fn fresh() -> Disk<Vec<u8>> {
-        let mut disk = Disk::new(vec![0; IMAGE_BYTES]);
+        Disk::fresh_as(Kind::Raw)
+    }
+
+    /// A freshly formatted disk in an image of a kind.
+    ///
+    /// ```
+    /// # use hilugsaban::{Direction, Disk, Kind, Status};
+    /// let mut disk = Disk::fresh_as(Kind::AtrDouble);
+    /// disk.open(0, Direction::Write, "A")?;
+    /// assert_eq!(disk.put(0, &[7; 254])?, 254);
+    /// assert_eq!(disk.show(0, 4), Some(&[7; 253][..]));
+    /// # Ok::<(), Box<dyn std::error::Error>>(())
+    /// ```
+    pub fn fresh_as(kind: Kind) -> Disk<Vec<u8>> {
+        let mut disk = Disk::new(vec![0; kind.image_bytes()]);
+        if kind.header_bytes() > 0 {
+            disk.write_header()
+                .expect("a header is written into an ATR file");
+        }
         disk.format()
-            .expect("an image of the right length with all channels closed is formatted");
+            .expect("an image with its header and all channels closed is formatted");
         disk
     }
 }
@@ -114,6 +134,11 @@ impl<B: AsRef<[u8]>> Disk<B> {
     /// The image.
     pub fn image(&self) -> &[u8] {
         self.image.as_ref()
+    }
+
+    /// What the image is by its length. Whether the header of an ATR file agrees is for the library to say.
+    pub fn kind(&self) -> Option<Kind> {
+        Kind::of_length(self.image().len())
     }
 
     /// The data of one file sector, as part of the image: none if a get for this slot could not enter the sector.
@@ -286,7 +311,7 @@ impl<B: AsMut<[u8]>> Disk<B> {
         self.on_name(command::UNLOCK, name)
     }
 
-    /// Makes the disk fresh: no files, 707 free sectors. Every channel must be closed.
+    /// Makes the disk fresh: no files, 707 free sectors. The header of an ATR file stays. Every channel must be closed.
     pub fn format(&mut self) -> Result<(), Status> {
         self.on_name(command::FORMAT, "D:")
     }
@@ -324,7 +349,7 @@ impl<B: AsMut<[u8]>> Disk<B> {
         ))
     }
 
-    /// Reads a sector into a buffer of its size.
+    /// Reads a sector into a buffer of its size, see [`Kind::sector_bytes`].
     ///
     /// ```
     /// # use hilugsaban::{Disk, Status};
@@ -344,6 +369,22 @@ impl<B: AsMut<[u8]>> Disk<B> {
             buffer,
         )
         .ok()
+    }
+
+    /// The bytes of a sector, as many as it has.
+    ///
+    /// ```
+    /// # use hilugsaban::{Disk, Kind, Status};
+    /// let mut disk = Disk::fresh_as(Kind::AtrDouble);
+    /// assert_eq!(disk.whole_sector(1)?.len(), 128);
+    /// assert_eq!(disk.whole_sector(4)?.len(), 256);
+    /// # Ok::<(), Status>(())
+    /// ```
+    pub fn whole_sector(&mut self, sector: u16) -> Result<Vec<u8>, Status> {
+        let kind = Kind::of_length(self.image.as_mut().len()).ok_or(Status::BadImage)?;
+        let mut bytes = vec![0; kind.sector_bytes(sector)];
+        self.read_sector(sector, &mut bytes)?;
+        Ok(bytes)
     }
 
     /// Writes a sector from bytes of its size.
@@ -384,6 +425,24 @@ impl<B: AsMut<[u8]>> Disk<B> {
         let word = raw::thin_put(self.image.as_mut(), &mut words, bytes);
         *channel = words.into();
         Answer::from_word(word).complete()
+    }
+
+    /// Writes the header of an ATR file, whatever stands in its place. A raw image has none.
+    ///
+    /// ```
+    /// # use hilugsaban::{Disk, Status};
+    /// let mut disk = Disk::new(vec![0; 92176]);
+    /// assert_eq!(disk.format(), Err(Status::BadHeader));
+    /// disk.write_header()?;
+    /// assert_eq!(disk.image()[..7], [0x96, 0x02, 0x80, 0x16, 0x80, 0x00, 0x00]);
+    /// disk.format()?;
+    /// assert_eq!(Disk::fresh().write_header(), Err(Status::BadImage));
+    /// # Ok::<(), Status>(())
+    /// ```
+    pub fn write_header(&mut self) -> Result<(), Status> {
+        Answer::from_word(raw::header(self.image.as_mut()))
+            .status
+            .ok()
     }
 
     /// An open channel as [`std::io::Read`].

@@ -1,8 +1,8 @@
 //! Atari DOS 2 disk images in memory.
 //!
-//! A [`Disk`] is an image of 92,160 bytes, owned or borrowed, with its table of eight channels. Its calls are those of the
-//! proved library `libcapi.a`: CIO commands on files, sector reads and writes, recovery of a deleted file, and the data of
-//! one sector in place. Nothing here decides what a call does; this crate lends the arguments and names the answers.
+//! A [`Disk`] is an image, owned or borrowed, with its table of eight channels; a [`Kind`] says what images there are: raw
+//! ones, and ATR files of single and double density. Its calls are those of the proved library `libcapi.a`: CIO commands on
+//! files, sector reads and writes, recovery of a deleted file, and the data of one sector in place. Nothing here decides what a call does; this crate lends the arguments and names the answers.
 //!
 //! ```
 //! use hilugsaban::{Direction, Disk, Status};
@@ -44,6 +44,7 @@
 
 mod answer;
 mod disk;
+mod kind;
 mod name;
 #[allow(unsafe_code)]
 pub mod raw;
@@ -52,15 +53,10 @@ mod table;
 
 pub use answer::{Answer, Incomplete, Status};
 pub use disk::{command, Direction, Disk};
+pub use kind::Kind;
 pub use name::padded_name;
 pub use stream::{Reader, Writer};
 pub use table::{Channel, Table, CHANNELS, CLOSED, READING, WRITING};
-
-/// Bytes of an image: sectors 1 to 720 of 128 bytes.
-pub const IMAGE_BYTES: usize = 92_160;
-
-/// Bytes of a sector.
-pub const SECTOR_BYTES: usize = 128;
 
 /// Slots of the directory.
 pub const SLOTS: u8 = 64;

@@ -54,10 +54,12 @@ mod archive {
             eleven: *mut u8,
             eleven_length: usize,
         ) -> u64;
+        pub fn dos_header(image: *mut u8, image_length: usize) -> u64;
     }
 }
 
 /// A CIO command on one channel of the table.
+#[inline]
 pub fn cio(
     image: &mut [u8],
     table: &mut [u16],
@@ -86,12 +88,14 @@ pub fn cio(
 }
 
 /// Takes the deleted file in a slot back.
+#[inline]
 pub fn recover(image: &mut [u8], slot: u8) -> u64 {
     // SAFETY: as for `cio`.
     unsafe { archive::dos_recover(image.as_mut_ptr(), image.len(), slot) }
 }
 
 /// Reads or writes a sector.
+#[inline]
 pub fn sector(
     image: &mut [u8],
     device: u8,
@@ -116,12 +120,14 @@ pub fn sector(
 }
 
 /// Where the data of a sector stand in the image: 1 or 0 in the low eight bits, above them offset * 1024 + length.
+#[inline]
 pub fn show(image: &[u8], slot: u8, sector: u16) -> u64 {
     // SAFETY: as for `cio`.
     unsafe { archive::dos_show(image.as_ptr(), image.len(), slot, sector) }
 }
 
 /// A get on one channel that is lent by itself.
+#[inline]
 pub fn thin_get(image: &[u8], channel: &mut [u16], buffer: &mut [u8]) -> u64 {
     // SAFETY: as for `cio`.
     unsafe {
@@ -137,6 +143,7 @@ pub fn thin_get(image: &[u8], channel: &mut [u16], buffer: &mut [u8]) -> u64 {
 }
 
 /// A put on one channel that is lent by itself.
+#[inline]
 pub fn thin_put(image: &mut [u8], channel: &mut [u16], buffer: &[u8]) -> u64 {
     // SAFETY: as for `cio`.
     unsafe {
@@ -152,7 +159,15 @@ pub fn thin_put(image: &mut [u8], channel: &mut [u16], buffer: &[u8]) -> u64 {
 }
 
 /// Takes a name apart into its eleven padded bytes.
+#[inline]
 pub fn name(name: &[u8], eleven: &mut [u8]) -> u64 {
     // SAFETY: as for `cio`.
     unsafe { archive::dos_name(name.as_ptr(), name.len(), eleven.as_mut_ptr(), eleven.len()) }
+}
+
+/// Writes the header of an ATR file into the image.
+#[inline]
+pub fn header(image: &mut [u8]) -> u64 {
+    // SAFETY: as for `cio`.
+    unsafe { archive::dos_header(image.as_mut_ptr(), image.len()) }
 }

@@ -1,7 +1,7 @@
 //! The safe calls on whole disks: files, refusals, damage, streams.
 
 use hilugsaban::{
-    Channel, Direction, Disk, Incomplete, Status, CHANNELS, CLOSED, READING, WRITING,
+    Channel, Direction, Disk, Incomplete, Kind, Status, CHANNELS, CLOSED, READING, WRITING,
 };
 use std::io::{self, ErrorKind, Read, Write};
 
@@ -224,4 +224,76 @@ fn thin_calls_and_showing_take_borrowed_bytes() {
         (READING, 5, 1, 0)
     );
     assert_eq!(Disk::new(&image[1..]).show(0, 4), None);
+}
+
+#[test]
+fn every_kind_of_disk_is_filled_and_read_back() {
+    for kind in Kind::ALL {
+        let mut disk = Disk::fresh_as(kind);
+        assert_eq!(disk.kind(), Some(kind));
+        let bytes: Vec<u8> = (0..kind.longest_file()).map(|i| (i % 251) as u8).collect();
+        make(&mut disk, "A", &bytes);
+        assert!(read(&mut disk, "A") == bytes);
+        assert_eq!(
+            disk.open(0, Direction::Write, "B"),
+            Err(Status::DiskFull),
+            "{kind:?}"
+        );
+        disk.delete("A").unwrap();
+        assert_eq!(disk.recover(0), Ok(707));
+        assert!(read(&mut disk, "A") == bytes);
+    }
+}
+
+#[test]
+fn raw_and_atr_single_hold_the_same_sectors() {
+    let [raw, atr] = [Kind::Raw, Kind::AtrSingle].map(|kind| {
+        let mut disk = Disk::fresh_as(kind);
+        make(&mut disk, "A", &[7; 1000]);
+        disk.into_parts().0
+    });
+    assert!(raw == atr[Kind::AtrSingle.header_bytes()..]);
+}
+
+#[test]
+fn sectors_have_their_own_size() {
+    let mut disk = Disk::fresh_as(Kind::AtrDouble);
+    for (sector, bytes) in [(1, 128), (3, 128), (4, 256), (360, 256), (720, 256)] {
+        assert_eq!(disk.write_sector(sector, &vec![0x5A; bytes]), Ok(bytes));
+        assert_eq!(disk.whole_sector(sector), Ok(vec![0x5A; bytes]));
+        assert_eq!(
+            disk.read_sector(sector, &mut vec![0; 384 - bytes]),
+            Err(Status::BadLength)
+        );
+    }
+    assert_eq!(disk.whole_sector(0), Err(Status::BadRequest));
+    assert_eq!(disk.whole_sector(721), Err(Status::BadRequest));
+    assert_eq!(Disk::new([0; 5]).whole_sector(1), Err(Status::BadImage));
+}
+
+#[test]
+fn a_header_has_to_agree_with_the_length() {
+    for kind in [Kind::AtrSingle, Kind::AtrDouble] {
+        let mut disk = Disk::fresh_as(kind);
+        make(&mut disk, "A", b"a");
+        let sound = disk.image().to_vec();
+        for place in 0..7 {
+            disk.image_mut()[place] ^= 1;
+            assert_eq!(disk.status("A"), Err(Status::BadHeader));
+            assert_eq!(disk.recover(0), Err(Status::BadHeader));
+            assert_eq!(disk.whole_sector(1), Err(Status::BadHeader));
+            assert_eq!(disk.show(0, 4), None);
+            let damaged = io::Error::from(disk.format().unwrap_err());
+            assert_eq!(damaged.kind(), ErrorKind::InvalidData);
+            disk.image_mut()[place] ^= 1;
+        }
+        disk.image_mut()[..16].fill(0xFF);
+        assert_eq!(disk.write_header(), Ok(()));
+        assert!(disk.image() == sound);
+        disk.image_mut()[7..16].fill(0xFF);
+        assert_eq!(disk.status("A"), Ok(()));
+        disk.format().unwrap();
+        assert_eq!(disk.image()[7..16], [0xFF; 9]);
+    }
+    assert_eq!(Disk::fresh().write_header(), Err(Status::BadImage));
 }

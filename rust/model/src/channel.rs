@@ -6,7 +6,7 @@
 //! refused with 255 before everything else.
 
 use crate::directory::{flag, OUTPUT};
-use crate::disk::Disk;
+use crate::disk::Density;
 use crate::fault::{Fault, Variant};
 use crate::status::Status;
 use crate::Model;
@@ -102,7 +102,7 @@ pub(crate) fn named(table: &Table, slot: u8) -> bool {
 }
 
 /// A slot is *held* when a channel names it or its flag has `$01`.
-pub(crate) fn held(disk: &Disk, table: &Table, slot: u8) -> bool {
+pub(crate) fn held(disk: &impl Density, table: &Table, slot: u8) -> bool {
     flag(disk, slot) & OUTPUT != 0 || named(table, slot)
 }
 

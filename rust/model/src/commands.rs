@@ -5,8 +5,9 @@ use crate::directory::{
     as_slot, count, flag, set_flag, set_slot_name, slot_name, Name, DELETED, FILE, LOCKED, OUTPUT,
     OUTPUT_FILE, SLOTS,
 };
-use crate::disk::Disk;
+use crate::disk::Density;
 use crate::fault::{Fault, Variant};
+use crate::image::{clear_header, on_disk};
 use crate::status::{Outcome, Status};
 use crate::Model;
 
@@ -76,7 +77,7 @@ impl Direction {
 }
 
 impl<V: Variant> Model<V> {
-    /// The checks that every command makes, then the command.
+    /// 255, 203 and 205, then the command.
     pub(crate) fn run_cio(
         self,
         image: &mut [u8],
@@ -85,18 +86,49 @@ impl<V: Variant> Model<V> {
         buffer: &mut [u8],
     ) -> Outcome {
         let table = as_table(table)?;
-        let number = usize::from(request.channel);
-        if self.wrong(Fault::ChannelBeforeImage) && number >= CHANNELS {
-            return Err(Status::NoSuchChannel.into());
+        let disk = self
+            .disk_mut(image)
+            .map_err(|refusal| self.image_refusal(refusal, request.channel))?;
+        let outcome = on_disk!(disk, disk => self.run_command(disk, table, &request, buffer));
+        if self.wrong(Fault::FormatClearsHeader)
+            && Command::of(request.command) == Ok(Command::Format)
+            && outcome.is_ok()
+        {
+            clear_header(image);
         }
-        let disk: &mut Disk = image.try_into().map_err(|_| Status::WrongImage)?;
+        outcome
+    }
+
+    /// 203 or 205; or for the two faults that look at the channel first, 134.
+    fn image_refusal(self, refusal: Status, channel: u8) -> Status {
+        let fault = if refusal == Status::WrongHeader {
+            Fault::ChannelBeforeHeader
+        } else {
+            Fault::ChannelBeforeImage
+        };
+        if self.wrong(fault) && usize::from(channel) >= CHANNELS {
+            Status::NoSuchChannel
+        } else {
+            refusal
+        }
+    }
+
+    /// The checks that a command makes of its channel, then the command.
+    fn run_command(
+        self,
+        disk: &mut impl Density,
+        table: &mut Table,
+        request: &Request,
+        buffer: &mut [u8],
+    ) -> Outcome {
+        let number = usize::from(request.channel);
         let record = *table.get(number).ok_or(Status::NoSuchChannel)?;
         let command = self.command(request.command)?;
         let before = Channel::of(record).ok_or(Status::Malformed)?;
         self.require_closed(table, before, command)?;
         let mut channel = before;
         let outcome = match command {
-            Command::Open => self.open(disk, table, &request, &mut channel),
+            Command::Open => self.open(disk, table, request, &mut channel),
             Command::Get => self.get_from(disk, &mut channel, buffer),
             Command::Put => self.put_to(disk, &mut channel, buffer),
             Command::Close => self.close(disk, &mut channel),
@@ -143,7 +175,7 @@ impl<V: Variant> Model<V> {
     /// Open, in one of its two directions.
     fn open(
         self,
-        disk: &mut Disk,
+        disk: &mut impl Density,
         table: &Table,
         request: &Request,
         channel: &mut Channel,
@@ -162,7 +194,7 @@ impl<V: Variant> Model<V> {
 
     /// Open for reading: before the first byte, with the slot's count of sectors yet to enter.
     /// It is refused with 200 only for a file open for output.
-    fn open_read(self, disk: &Disk, table: &Table, name: &Name) -> Result<Reading, Status> {
+    fn open_read(self, disk: &impl Density, table: &Table, name: &Name) -> Result<Reading, Status> {
         let slot = self.find(disk, name).ok_or(Status::NotFound)?;
         let named = self.wrong(Fault::OpenOfRead) && named(table, slot);
         if flag(disk, slot) & OUTPUT != 0 || named {
@@ -178,7 +210,12 @@ impl<V: Variant> Model<V> {
 
     /// Open for writing: frees the found file's chain and keeps its slot, or takes a new slot;
     /// then flag `$43` and one sector.
-    fn open_write(self, disk: &mut Disk, table: &Table, name: &Name) -> Result<Writing, Status> {
+    fn open_write(
+        self,
+        disk: &mut impl Density,
+        table: &Table,
+        name: &Name,
+    ) -> Result<Writing, Status> {
         self.require_good_table(disk)?;
         let slot = match self.find(disk, name) {
             Some(slot) => {
@@ -202,7 +239,7 @@ impl<V: Variant> Model<V> {
     }
 
     /// The lowest slot that is deleted or zero and named by no channel, if a sector is free too.
-    fn slot_for_new_file(self, disk: &Disk, table: &Table) -> Result<u8, Status> {
+    fn slot_for_new_file(self, disk: &impl Density, table: &Table) -> Result<u8, Status> {
         let slot = (0..SLOTS)
             .filter(|&slot| flag(disk, slot) == 0 || flag(disk, slot) & DELETED != 0)
             .find(|&slot| !named(table, slot) || self.wrong(Fault::HeldSlotTaken));
@@ -217,7 +254,7 @@ impl<V: Variant> Model<V> {
 
     /// Close frees the channel whatever it answers. A writing one's flag `$43` becomes `$42`;
     /// without that flag, or with a slot above 63, the answer is 164.
-    fn close(self, disk: &mut Disk, channel: &mut Channel) -> Outcome {
+    fn close(self, disk: &mut impl Density, channel: &mut Channel) -> Outcome {
         let Channel::Writing(writing) = *channel else {
             *channel = Channel::Closed;
             return Ok(0);
@@ -234,7 +271,7 @@ impl<V: Variant> Model<V> {
     }
 
     /// Status of a name: 170, 167 or 1.
-    fn status(self, disk: &Disk, name: &[u8]) -> Outcome {
+    fn status(self, disk: &impl Density, name: &[u8]) -> Outcome {
         let name = self.file_name(name)?;
         let slot = self.find(disk, &name).ok_or(Status::NotFound)?;
         if flag(disk, slot) & LOCKED != 0 && !self.wrong(Fault::StatusOfLocked) {
@@ -244,7 +281,7 @@ impl<V: Variant> Model<V> {
     }
 
     /// Rename writes the eleven bytes.
-    fn rename(self, disk: &mut Disk, table: &Table, names: &[u8]) -> Outcome {
+    fn rename(self, disk: &mut impl Density, table: &Table, names: &[u8]) -> Outcome {
         let (old, new) = self.two_names(names)?;
         let slot = self.found_on_good_table(disk, &old)?;
         self.require_unlocked_unheld(disk, table, slot)?;
@@ -260,7 +297,7 @@ impl<V: Variant> Model<V> {
     }
 
     /// Delete frees the chain and sets the flag to `$80`; all else in the slot stays.
-    fn delete(self, disk: &mut Disk, table: &Table, name: &[u8]) -> Outcome {
+    fn delete(self, disk: &mut impl Density, table: &Table, name: &[u8]) -> Outcome {
         let name = self.file_name(name)?;
         let slot = self.found_on_good_table(disk, &name)?;
         self.require_unlocked_unheld(disk, table, slot)?;
@@ -280,7 +317,7 @@ impl<V: Variant> Model<V> {
     }
 
     /// Lock sets `$20`, unlock clears it. A locked file is not refused.
-    fn set_lock(self, disk: &mut Disk, table: &Table, name: &[u8], lock: u8) -> Outcome {
+    fn set_lock(self, disk: &mut impl Density, table: &Table, name: &[u8], lock: u8) -> Outcome {
         let name = self.file_name(name)?;
         let slot = self.found_on_good_table(disk, &name)?;
         if self.wrong(Fault::LockOfLocked) && flag(disk, slot) & LOCKED != 0 {
@@ -299,7 +336,7 @@ impl<V: Variant> Model<V> {
     }
 
     /// Format: `D:` alone, and no channel open.
-    fn format(self, disk: &mut Disk, table: &Table, name: &[u8]) -> Outcome {
+    fn format(self, disk: &mut impl Density, table: &Table, name: &[u8]) -> Outcome {
         self.device_alone(name)?;
         let open = table.iter().any(|record| record[0] != 0);
         if open && !self.wrong(Fault::FormatUnderChannel) {
@@ -310,14 +347,14 @@ impl<V: Variant> Model<V> {
     }
 
     /// 163.
-    pub(crate) fn require_good_table(self, disk: &Disk) -> Result<(), Status> {
+    pub(crate) fn require_good_table(self, disk: &impl Density) -> Result<(), Status> {
         self.table_is_good(disk)
             .then_some(())
             .ok_or(Status::WrongVolumeTable)
     }
 
     /// 163, then 170.
-    fn found_on_good_table(self, disk: &Disk, name: &Name) -> Result<u8, Status> {
+    fn found_on_good_table(self, disk: &impl Density, name: &Name) -> Result<u8, Status> {
         let found = self.find(disk, name).ok_or(Status::NotFound);
         if self.wrong(Fault::SearchBeforeTable) {
             found?;
@@ -327,7 +364,12 @@ impl<V: Variant> Model<V> {
     }
 
     /// 167, then 200.
-    fn require_unlocked_unheld(self, disk: &Disk, table: &Table, slot: u8) -> Result<(), Status> {
+    fn require_unlocked_unheld(
+        self,
+        disk: &impl Density,
+        table: &Table,
+        slot: u8,
+    ) -> Result<(), Status> {
         let held = held(disk, table, slot);
         if self.wrong(Fault::HeldBeforeLocked) && held {
             return Err(Status::Held);
@@ -342,7 +384,7 @@ impl<V: Variant> Model<V> {
     }
 
     /// 164.
-    fn require_clean_chain(self, disk: &Disk, slot: u8) -> Result<(), Status> {
+    fn require_clean_chain(self, disk: &impl Density, slot: u8) -> Result<(), Status> {
         self.chain_is_clean(disk, slot, false)
             .then_some(())
             .ok_or(Status::WrongChain)

@@ -1,17 +1,15 @@
 //! "The disk": the directory, sectors 361 to 368.
 
-use crate::disk::{set_word, word, Disk, SECTOR};
+use crate::disk::{set_word, word, Density};
 use crate::fault::{Fault, Variant};
 use crate::Model;
 
-/// The directory, as a place in the image: sectors 361 to 368.
-const DIRECTORY: usize = 360 * SECTOR;
-/// Where the directory ends in the image.
-pub(crate) const DIRECTORY_END: usize = 368 * SECTOR;
 /// Slots of the directory.
 pub const SLOTS: u8 = 64;
 /// Bytes of a slot.
 const SLOT: usize = 16;
+/// Slots of a sector: the directory uses 128 bytes of each, in double density the first.
+const SLOTS_OF_SECTOR: usize = 8;
 
 /// Flag bits of a slot.
 pub const DELETED: u8 = 0x80;
@@ -25,48 +23,53 @@ pub const OUTPUT_FILE: u8 = 0x43;
 /// The eleven bytes of a slot's name and extension, blank padded.
 pub type Name = [u8; 11];
 
-/// Where a slot begins in the image.
-const fn slot_start(slot: u8) -> usize {
-    DIRECTORY + slot as usize * SLOT
+/// Where a slot begins on the disk.
+pub(crate) fn slot_start<D: Density>(slot: u8) -> usize {
+    let slot = usize::from(slot);
+    D::DIRECTORY + slot / SLOTS_OF_SECTOR * D::SECTOR + slot % SLOTS_OF_SECTOR * SLOT
 }
 
 /// The flag byte of a slot.
-pub fn flag(disk: &Disk, slot: u8) -> u8 {
-    disk[slot_start(slot)]
+pub(crate) fn flag<D: Density>(disk: &D, slot: u8) -> u8 {
+    disk[slot_start::<D>(slot)]
 }
 
-pub(crate) fn set_flag(disk: &mut Disk, slot: u8, flag: u8) {
-    disk[slot_start(slot)] = flag;
+pub(crate) fn set_flag<D: Density>(disk: &mut D, slot: u8, flag: u8) {
+    disk[slot_start::<D>(slot)] = flag;
 }
 
 /// The slot's count of sectors.
-pub fn count(disk: &Disk, slot: u8) -> u16 {
-    word(disk, slot_start(slot) + 1)
+pub(crate) fn count<D: Density>(disk: &D, slot: u8) -> u16 {
+    word(disk, slot_start::<D>(slot) + 1)
 }
 
-pub(crate) fn set_count(disk: &mut Disk, slot: u8, count: u16) {
-    set_word(disk, slot_start(slot) + 1, count);
+pub(crate) fn set_count<D: Density>(disk: &mut D, slot: u8, count: u16) {
+    set_word(disk, slot_start::<D>(slot) + 1, count);
 }
 
 /// The slot's first sector.
-pub fn first(disk: &Disk, slot: u8) -> u16 {
-    word(disk, slot_start(slot) + 3)
+pub(crate) fn first<D: Density>(disk: &D, slot: u8) -> u16 {
+    word(disk, slot_start::<D>(slot) + 3)
 }
 
-pub(crate) fn set_first(disk: &mut Disk, slot: u8, sector: u16) {
-    set_word(disk, slot_start(slot) + 3, sector);
+pub(crate) fn set_first<D: Density>(disk: &mut D, slot: u8, sector: u16) {
+    set_word(disk, slot_start::<D>(slot) + 3, sector);
 }
 
 /// The slot's eleven bytes of name and extension.
-pub fn slot_name(disk: &Disk, slot: u8) -> Name {
-    let at = slot_start(slot) + 5;
-    *disk[at..]
-        .first_chunk()
-        .expect("the directory lies within the image")
+pub(crate) fn slot_name<D: Density>(disk: &D, slot: u8) -> Name {
+    name_in(disk, slot_start::<D>(slot))
 }
 
-pub(crate) fn set_slot_name(disk: &mut Disk, slot: u8, name: &Name) {
-    let at = slot_start(slot) + 5;
+/// The name in the slot that begins at a place of the disk.
+fn name_in(disk: &impl Density, start: usize) -> Name {
+    *disk[start + 5..start + SLOT]
+        .first_chunk()
+        .expect("eleven bytes of the directory")
+}
+
+pub(crate) fn set_slot_name<D: Density>(disk: &mut D, slot: u8, name: &Name) {
+    let at = slot_start::<D>(slot) + 5;
     disk[at..at + name.len()].copy_from_slice(name);
 }
 
@@ -77,16 +80,27 @@ pub(crate) fn as_slot(number: u16) -> Option<u8> {
 
 impl<V: Variant> Model<V> {
     /// The standing slots in order: `$40` set, `$80` clear, and no earlier flag zero.
-    pub(crate) fn standing(self, disk: &Disk) -> impl Iterator<Item = u8> + '_ {
+    pub(crate) fn standing(self, disk: &impl Density) -> impl Iterator<Item = u8> + '_ {
         (0..SLOTS)
             .take_while(move |&slot| flag(disk, slot) != 0 || self.wrong(Fault::SearchPastZero))
             .filter(|&slot| flag(disk, slot) & (IN_USE | DELETED) == IN_USE)
     }
 
     /// The first standing slot with the name.
-    pub(crate) fn find(self, disk: &Disk, name: &Name) -> Option<u8> {
+    pub(crate) fn find(self, disk: &impl Density, name: &Name) -> Option<u8> {
         self.standing(disk)
             .filter(|&slot| !self.wrong(Fault::SearchSkipsOutput) || flag(disk, slot) & OUTPUT == 0)
-            .find(|&slot| slot_name(disk, slot) == *name)
+            .find(|&slot| self.name_searched(disk, slot) == *name)
+    }
+
+    /// The name that a search compares.
+    fn name_searched<D: Density>(self, disk: &D, slot: u8) -> Name {
+        if self.wrong(Fault::DirectoryPacked) {
+            let slot = usize::from(slot);
+            let slots_of_sector = D::SECTOR / SLOT;
+            let sector = D::DIRECTORY + slot / slots_of_sector * D::SECTOR;
+            return name_in(disk, sector + slot % slots_of_sector * SLOT);
+        }
+        slot_name(disk, slot)
     }
 }

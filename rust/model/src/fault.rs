@@ -44,6 +44,15 @@ macro_rules! faults {
 }
 
 faults! {
+    // Kinds of images.
+    HeaderBeforeLength: "an image of another length that does not begin as a header does answers 205",
+    HeaderWhole: "bytes 7 to 15 of a header must be zero",
+    HeaderWithoutHighByte: "byte 6 of a header is not looked at",
+    HeaderInBytes: "a header has the length in bytes and not in units of 16",
+    HeaderNotSkipped: "the sectors of an ATR image begin with its header",
+    HeaderIntoRaw: "a header is written into a raw image too",
+    HeaderRestKept: "writing a header leaves bytes 7 to 15",
+    OldHeaderLookedAt: "a header is not written over one that does not agree",
     // The volume table.
     MapFromLowEnd: "map bits are counted from the low end",
     GoodWithoutReserved: "a table with sector 368 marked free is good",
@@ -53,9 +62,12 @@ faults! {
     HighestFree: "a sector given out is the highest free one",
     // The directory.
     SearchSkipsOutput: "a search skips files open for output",
+    DirectoryPacked: "a search takes names from 256 bytes of a directory's sector, not from 128",
     SearchPastZero: "a search goes on behind a flag byte of zero",
     HeldSlotTaken: "a new file takes a slot that a channel holds",
     // File sectors.
+    LinkAt125: "the last three bytes of a double density sector are at 125 to 127",
+    AnyCountFits: "a double density sector may hold any number of bytes",
     HighLinkBits: "the high link bits are the top of byte 125",
     ChainWithoutSlot: "a chain is clean with sectors of another slot",
     ChainUnmarked: "a chain is clean with sectors that are marked free",
@@ -72,6 +84,8 @@ faults! {
     ZeroPadding: "rename pads the new name with 0",
     // The order of refusals.
     ChannelBeforeImage: "134 comes before 203",
+    ChannelBeforeHeader: "134 comes before 205",
+    UnitBeforeHeader: "138 comes before 205",
     AllOpenFirst: "161 comes before 129",
     NoBytesFirst: "a get or put of no bytes answers 1 before 131 and 135",
     DirectionAfterName: "an open looks at its direction behind the name",
@@ -85,6 +99,7 @@ faults! {
     CountKept: "a file opened again for output counts on from its old length",
     BytesInUseKept: "a sector given out keeps its old count of bytes in use",
     SectorTooEarly: "put gives out a sector as soon as the last one is full",
+    PutFills125: "put fills 125 bytes of a sector in either density",
     FirstPutOnly: "put stores into an empty file and only reports afterwards",
     ByteCountNotStored: "put does not write byte 127",
     NoCountOfPart: "put with 162 reports no bytes",
@@ -103,6 +118,8 @@ faults! {
     DeleteKeepsFlag: "delete adds $80 to the flag",
     DeleteWithoutChain: "delete of a file whose chain is not clean frees nothing and answers 1",
     FormatKeepsData: "format clears the volume table and the directory alone",
+    FormatClearsHeader: "format clears the header",
+    FormatClearsHalves: "format clears the first 128 bytes of each sector alone",
     FormatUnderChannel: "format does not ask whether a channel is open",
     // Recovery.
     RecoverAnySlotNumber: "recovery does not look at the slot number in the sectors",
@@ -115,7 +132,11 @@ faults! {
     WriteShort: "a sector write leaves the last byte",
     LastSector: "a sector call refuses sector 720",
     BufferFirst: "204 comes before 139",
-    ShowWholeSector: "showing hands back all 125 data bytes",
+    BootSectorsLong: "sectors 1 to 3 of a double density disk have 256 bytes",
+    FourthSectorEarly: "a double density disk has two sectors of 128 bytes before sector 4",
+    ReportsSingle: "a sector call always reports 128",
+    ShowWholeSector: "showing hands back all data bytes",
+    ShowWithoutHeader: "showing does not count the header into the offset",
     ShowUnused: "showing answers no for an empty sector",
     // Thin calls, and names taken apart.
     ThinKeepsRecord: "the thin put does not advance the record",

@@ -1,8 +1,8 @@
 //! A second program for the rules of timing-desk disks.
 //!
 //! The paper *Timing-desk disks: what is served, and the precise rules* says what every call on
-//! a disk image does. This crate does what it says, in plain Rust, written from the paper and
-//! from nothing else. It shares no code with the proved library, which makes it of use twice:
+//! a disk image does; request P13 of *Later customer requests* adds ATR images and double
+//! density. This crate does what they say, in plain Rust, written from them and from nothing else. It shares no code with the proved library, which makes it of use twice:
 //! the two are compared byte for byte on many disks (package `compare`), and it is the measure
 //! for the library's speed.
 //!
@@ -10,6 +10,7 @@
 //!
 //! | Module | Section |
 //! |---|---|
+//! | [`image`] | request P13: raw and ATR images, their headers |
 //! | [`disk`], [`volume`], [`directory`], [`file`](mod@file) | The disk: its sectors, volume table, directory, file sectors and chains |
 //! | [`sound`] | The disk: when a disk with its channels is *sound* |
 //! | [`channel`] | The channels |
@@ -18,12 +19,12 @@
 //! | `recovery`, `sectors`, `showing` | Recovery, Sectors, Showing |
 //! | [`status`] | the status numbers |
 //!
-//! There are seven calls, those of the C interface with slices in place of pointers and lengths:
-//! [`cio`], [`recover`], [`sector`], [`show`], [`thin_get`], [`thin_put`], [`name`]. Each answers
-//! one number, status + 256 * count.
+//! There are eight calls, those of the C interface with slices in place of pointers and lengths:
+//! [`cio`], [`recover`], [`sector`], [`show`], [`thin_get`], [`thin_put`], [`name`], [`header`].
+//! Each answers one number, status + 256 * count.
 //!
 //! ```
-//! let mut image = vec![0; model::disk::IMAGE];
+//! let mut image = vec![0; 92_160];
 //! let mut table = [0; 40];
 //! assert_eq!(model::cio(&mut image, &mut table, 0, 254, 0, b"D:\x9b", &mut []), 1);
 //! assert_eq!(model::cio(&mut image, &mut table, 0, 3, 8, b"D:A\x9b", &mut []), 1);
@@ -41,6 +42,7 @@ pub mod directory;
 pub mod disk;
 pub mod fault;
 pub mod file;
+pub mod image;
 pub mod names;
 mod recovery;
 mod sectors;
@@ -53,7 +55,7 @@ pub mod volume;
 use fault::{Right, Variant};
 use status::number;
 
-/// The seven calls. `Model(Right)` does what the paper says; `Model(fault)` makes one of the
+/// The eight calls. `Model(Right)` does what the paper says; `Model(fault)` makes one of the
 /// mistakes of [`Fault`](fault::Fault).
 #[derive(Clone, Copy)]
 pub struct Model<V: Variant>(pub V);
@@ -61,9 +63,11 @@ pub struct Model<V: Variant>(pub V);
 /// The model that does what the paper says.
 pub const RIGHT: Model<Right> = Model(Right);
 
+/// The calls. Each is made as a call, as that of a library is, also where the compiler sees its inside: the benchmark measures both sides alike.
 impl<V: Variant> Model<V> {
     /// Carries out one CIO command on a channel of the table.
     #[allow(clippy::too_many_arguments)]
+    #[inline(never)]
     pub fn cio(
         self,
         image: &mut [u8],
@@ -84,11 +88,13 @@ impl<V: Variant> Model<V> {
     }
 
     /// Takes back a deleted file; the count is the number of its sectors.
+    #[inline(never)]
     pub fn recover(self, image: &mut [u8], slot: u8) -> u64 {
         number(self.run_recover(image, slot))
     }
 
     /// Reads (`$52`) or writes (`$50`, `$57`) one sector.
+    #[inline(never)]
     pub fn sector(
         self,
         image: &mut [u8],
@@ -98,11 +104,18 @@ impl<V: Variant> Model<V> {
         sector: u16,
         buffer: &mut [u8],
     ) -> u64 {
-        number(self.run_sector(image, device, unit, command, sector, buffer))
+        let request = sectors::Request {
+            device,
+            unit,
+            command,
+            sector,
+        };
+        number(self.run_sector(image, request, buffer))
     }
 
     /// Where the bytes in use of one sector are: 1, and above its eight bits the offset in the
     /// image * 1024 + the length; or 0.
+    #[inline(never)]
     pub fn show(self, image: &[u8], slot: u8, sector: u16) -> u64 {
         match self.shown(image, slot, sector) {
             Some(part) => 1 + 256 * (1024 * part.start + part.len()) as u64,
@@ -111,18 +124,27 @@ impl<V: Variant> Model<V> {
     }
 
     /// A get that advances one lent channel record of five words.
+    #[inline(never)]
     pub fn thin_get(self, image: &[u8], words: &mut [u16], buffer: &mut [u8]) -> u64 {
         number(self.run_thin_get(image, words, buffer))
     }
 
     /// A put that advances one lent channel record of five words.
+    #[inline(never)]
     pub fn thin_put(self, image: &mut [u8], words: &mut [u16], buffer: &[u8]) -> u64 {
         number(self.run_thin_put(image, words, buffer))
     }
 
     /// Takes a name apart into its eleven padded bytes, or answers its refusal.
+    #[inline(never)]
     pub fn name(self, name: &[u8], eleven: &mut [u8]) -> u64 {
         number(self.run_name(name, eleven))
+    }
+
+    /// Writes the header of an ATR image.
+    #[inline(never)]
+    pub fn header(self, image: &mut [u8]) -> u64 {
+        number(self.run_header(image))
     }
 }
 
@@ -174,4 +196,9 @@ pub fn thin_put(image: &mut [u8], words: &mut [u16], buffer: &[u8]) -> u64 {
 /// [`Model::name`] without a fault.
 pub fn name(name: &[u8], eleven: &mut [u8]) -> u64 {
     RIGHT.name(name, eleven)
+}
+
+/// [`Model::header`] without a fault.
+pub fn header(image: &mut [u8]) -> u64 {
+    RIGHT.header(image)
 }

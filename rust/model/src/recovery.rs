@@ -1,17 +1,22 @@
 //! "Recovery" of a deleted file. It knows no channels.
 
 use crate::directory::{flag, set_flag, slot_name, DELETED, FILE, SLOTS};
-use crate::disk::Disk;
+use crate::disk::Density;
 use crate::fault::{Fault, Variant};
+use crate::image::on_disk;
 use crate::names::is_legal;
 use crate::status::{Outcome, Status};
 use crate::Model;
 
 impl<V: Variant> Model<V> {
-    /// In order: 203; 170 for a slot above 63, at or past the first zero flag, or not deleted;
-    /// 163; 165; 201; 202. The count is the number of sectors taken back.
+    /// 203 and 205, then the recovery.
     pub(crate) fn run_recover(self, image: &mut [u8], slot: u8) -> Outcome {
-        let disk: &mut Disk = image.try_into().map_err(|_| Status::WrongImage)?;
+        on_disk!(self.disk_mut(image)?, disk => self.recover_slot(disk, slot))
+    }
+
+    /// In order: 170 for a slot above 63, at or past the first zero flag, or not deleted;
+    /// 163; 165; 201; 202. The count is the number of sectors taken back.
+    fn recover_slot(self, disk: &mut impl Density, slot: u8) -> Outcome {
         if !self.is_deleted(disk, slot) {
             return Err(Status::NotFound.into());
         }
@@ -39,7 +44,7 @@ impl<V: Variant> Model<V> {
     }
 
     /// A slot of the directory with `$80`, before the first zero flag.
-    fn is_deleted(self, disk: &Disk, slot: u8) -> bool {
+    fn is_deleted(self, disk: &impl Density, slot: u8) -> bool {
         slot < SLOTS
             && (self.wrong(Fault::RecoverPastZero) || (0..slot).all(|slot| flag(disk, slot) != 0))
             && flag(disk, slot) & DELETED != 0

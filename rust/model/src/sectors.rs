@@ -1,7 +1,8 @@
 //! "Sectors": the two SIO sector commands.
 
-use crate::disk::{sector_start, Disk, SECTOR, SECTORS};
+use crate::disk::{Density, Single, SECTORS};
 use crate::fault::{Fault, Variant};
+use crate::image::on_disk;
 use crate::status::{Outcome, Status};
 use crate::Model;
 
@@ -9,38 +10,85 @@ use crate::Model;
 const DEVICE: u8 = 0x31;
 const UNIT: u8 = 1;
 
+/// What one sector call asks for, apart from what it is lent.
+pub(crate) struct Request {
+    pub device: u8,
+    pub unit: u8,
+    pub command: u8,
+    pub sector: u16,
+}
+
+impl Request {
+    /// 138 for another device or unit.
+    fn require_unit(&self) -> Result<(), Status> {
+        if self.device != DEVICE || self.unit != UNIT {
+            return Err(Status::WrongUnit);
+        }
+        Ok(())
+    }
+}
+
 impl<V: Variant> Model<V> {
-    /// 203; 138 for another device or unit; 139 for another command or no sector of the disk; 204
-    /// for a buffer that is not a sector long. `$50` and `$57` have the same effect.
+    /// 203 and 205, then the sector.
     pub(crate) fn run_sector(
         self,
         image: &mut [u8],
-        device: u8,
-        unit: u8,
-        command: u8,
-        sector: u16,
+        request: Request,
         buffer: &mut [u8],
     ) -> Outcome {
-        let disk: &mut Disk = image.try_into().map_err(|_| Status::WrongImage)?;
-        if device != DEVICE || unit != UNIT {
-            return Err(Status::WrongUnit.into());
+        let disk = self.disk_mut(image);
+        if self.wrong(Fault::UnitBeforeHeader) && matches!(disk, Err(Status::WrongHeader)) {
+            request.require_unit()?;
         }
-        if self.wrong(Fault::BufferFirst) && buffer.len() != SECTOR {
+        on_disk!(disk?, disk => self.move_sector(disk, request, buffer))
+    }
+
+    /// 138; 139 for another command or no sector of the disk; 204 for a buffer that has not the
+    /// sector's own size, which is reported. `$50` and `$57` have the same effect.
+    fn move_sector<D: Density>(self, disk: &mut D, request: Request, buffer: &mut [u8]) -> Outcome {
+        request.require_unit()?;
+        let Request {
+            command, sector, ..
+        } = request;
+        let size = self.sector_size::<D>(sector);
+        if self.wrong(Fault::BufferFirst) && buffer.len() != size {
             return Err(Status::WrongBuffer.into());
         }
         let last = SECTORS - u16::from(self.wrong(Fault::LastSector));
         if !matches!(command, 0x50 | 0x52 | 0x57) || !(1..=last).contains(&sector) {
             return Err(Status::WrongSector.into());
         }
-        let buffer: &mut [u8; SECTOR] = buffer.try_into().map_err(|_| Status::WrongBuffer)?;
-        let at = sector_start(sector);
-        let place = &mut disk[at..at + SECTOR];
+        if buffer.len() != size {
+            return Err(Status::WrongBuffer.into());
+        }
+        let at = self.sector_place::<D>(sector);
+        let place = &mut disk[at..at + size];
         if command == 0x52 {
             buffer.copy_from_slice(place);
         } else {
-            let written = SECTOR - usize::from(self.wrong(Fault::WriteShort));
+            let written = size - usize::from(self.wrong(Fault::WriteShort));
             place[..written].copy_from_slice(&buffer[..written]);
         }
-        Ok(SECTOR)
+        Ok(if self.wrong(Fault::ReportsSingle) {
+            Single::SECTOR
+        } else {
+            size
+        })
+    }
+
+    /// The size of a sector.
+    fn sector_size<D: Density>(self, sector: u16) -> usize {
+        if self.wrong(Fault::BootSectorsLong) {
+            D::SECTOR
+        } else {
+            D::size(sector)
+        }
+    }
+
+    /// Where a sector call finds a sector.
+    fn sector_place<D: Density>(self, sector: u16) -> usize {
+        let start = D::start(sector);
+        let shifted = self.wrong(Fault::FourthSectorEarly) && D::size(sector) > Single::SECTOR;
+        start - if shifted { Single::SECTOR } else { 0 }
     }
 }

@@ -6,8 +6,10 @@
 pub enum Status {
     /// The lent table or record is no table of channels (a rule of the C interface).
     Malformed = 255,
-    /// The image is not 92,160 bytes.
+    /// The image has none of the three lengths; for the header's writer, no ATR image's.
     WrongImage = 203,
+    /// The header of an ATR image does not agree with its length.
+    WrongHeader = 205,
     /// The channel is above 7.
     NoSuchChannel = 134,
     /// The command is 0 to 2.
@@ -54,7 +56,7 @@ pub enum Status {
     WrongUnit = 138,
     /// A sector call with another command, or for no sector of the disk.
     WrongSector = 139,
-    /// A sector call with a buffer of another length than 128.
+    /// A sector call with a buffer of another length than the sector's.
     WrongBuffer = 204,
 }
 

@@ -2,22 +2,27 @@
 
 use crate::channel::{as_record, Channel, Reading, Writing};
 use crate::directory::{as_slot, count, first, flag, OUTPUT_FILE};
-use crate::disk::{sector_start, Disk, DATA, DATA_SECTORS};
+use crate::disk::{Density, Single, DATA_SECTORS};
 use crate::fault::{Fault, Variant};
-use crate::file::set_used;
+use crate::image::on_disk;
 use crate::status::{Outcome, Status, Stop};
 use crate::Model;
 
 impl<V: Variant> Model<V> {
     /// The bytes in use of a sector that get can enter for the slot.
-    pub(crate) fn bytes_in_use(self, disk: &Disk, slot: u8, sector: u16) -> Option<&[u8]> {
+    pub(crate) fn bytes_in_use<D: Density>(self, disk: &D, slot: u8, sector: u16) -> Option<&[u8]> {
         let tail = self.file_sector(disk, slot, sector)?;
-        let at = sector_start(sector);
+        let at = D::start(sector);
         Some(&disk[at..at + usize::from(tail.used)])
     }
 
     /// A get on a channel in any state.
-    pub(crate) fn get_from(self, disk: &Disk, channel: &mut Channel, buffer: &mut [u8]) -> Outcome {
+    pub(crate) fn get_from(
+        self,
+        disk: &impl Density,
+        channel: &mut Channel,
+        buffer: &mut [u8],
+    ) -> Outcome {
         match channel {
             Channel::Writing(_) if self.wrong(Fault::NoBytesFirst) && buffer.is_empty() => Ok(0),
             Channel::Closed => Err(Status::ChannelClosed.into()),
@@ -27,7 +32,12 @@ impl<V: Variant> Model<V> {
     }
 
     /// A put on a channel in any state.
-    pub(crate) fn put_to(self, disk: &mut Disk, channel: &mut Channel, bytes: &[u8]) -> Outcome {
+    pub(crate) fn put_to(
+        self,
+        disk: &mut impl Density,
+        channel: &mut Channel,
+        bytes: &[u8],
+    ) -> Outcome {
         match channel {
             Channel::Reading(_) if self.wrong(Fault::NoBytesFirst) && bytes.is_empty() => Ok(0),
             Channel::Closed => Err(Status::ChannelClosed.into()),
@@ -38,7 +48,7 @@ impl<V: Variant> Model<V> {
 
     /// Get fills the buffer, or stops with 136 where the file ends and with 164 where it cannot go
     /// on; then the channel stays at the end of the sector it last entered.
-    fn get(self, disk: &Disk, place: &mut Reading, buffer: &mut [u8]) -> Outcome {
+    fn get(self, disk: &impl Density, place: &mut Reading, buffer: &mut [u8]) -> Outcome {
         if buffer.is_empty() {
             return Ok(0);
         }
@@ -73,7 +83,7 @@ impl<V: Variant> Model<V> {
 
     /// The slot of a lent record and what is left of its entered sector, which is tested again.
     /// At sector 0 nothing has been entered, and the offset is not looked at.
-    fn reading_place<'a>(self, disk: &'a Disk, place: &Reading) -> Option<(u8, &'a [u8])> {
+    fn reading_place<'a>(self, disk: &'a impl Density, place: &Reading) -> Option<(u8, &'a [u8])> {
         let slot = as_slot(place.slot)?;
         if place.sector == 0 {
             return Some((slot, &[]));
@@ -86,7 +96,12 @@ impl<V: Variant> Model<V> {
     }
 
     /// Enters the next sector: the slot's first, or the link of the last one.
-    fn enter<'a>(self, disk: &'a Disk, slot: u8, place: &mut Reading) -> Result<&'a [u8], Status> {
+    fn enter<'a>(
+        self,
+        disk: &'a impl Density,
+        slot: u8,
+        place: &mut Reading,
+    ) -> Result<&'a [u8], Status> {
         let next = match place.sector {
             0 => first(disk, slot),
             sector => match self.tail(disk, sector).next {
@@ -112,8 +127,8 @@ impl<V: Variant> Model<V> {
     }
 
     /// Put adds the bytes at the file's end, as many as fit. A sector is given out only when a
-    /// byte is waiting and the last sector holds 125.
-    fn put(self, disk: &mut Disk, place: &mut Writing, bytes: &[u8]) -> Outcome {
+    /// byte is waiting and the last sector is full.
+    fn put<D: Density>(self, disk: &mut D, place: &mut Writing, bytes: &[u8]) -> Outcome {
         if bytes.is_empty() {
             return Ok(0);
         }
@@ -124,17 +139,18 @@ impl<V: Variant> Model<V> {
         if self.wrong(Fault::FirstPutOnly) && used > 0 {
             return Ok(bytes.len());
         }
+        let data = self.data_of_put::<D>();
         let mut map_byte = 0;
         let mut done = 0;
         loop {
-            let run = (DATA - used).min(bytes.len() - done);
-            let at = sector_start(place.last) + used;
+            let run = data.saturating_sub(used).min(bytes.len() - done);
+            let at = D::start(place.last) + used;
             disk[at..at + run].copy_from_slice(&bytes[done..done + run]);
             if !self.wrong(Fault::ByteCountNotStored) {
-                set_used(disk, place.last, (used + run) as u8);
+                self.set_used(disk, place.last, (used + run) as u8);
             }
             done += run;
-            if done == bytes.len() && !(self.wrong(Fault::SectorTooEarly) && used + run == DATA) {
+            if done == bytes.len() && !(self.wrong(Fault::SectorTooEarly) && used + run == data) {
                 return Ok(done);
             }
             let Some(sector) = self.give_out(disk, slot, Some(place.last), map_byte) else {
@@ -154,10 +170,19 @@ impl<V: Variant> Model<V> {
         }
     }
 
+    /// The bytes that put writes into a sector at most.
+    fn data_of_put<D: Density>(self) -> usize {
+        if self.wrong(Fault::PutFills125) {
+            Single::DATA
+        } else {
+            D::DATA
+        }
+    }
+
     /// What put asks of a lent record: its slot has the flag `$43` and a count not above 707, its
-    /// last sector is a data sector that carries the slot with next sector 0 and at most 125
+    /// last sector is a data sector that carries the slot with next sector 0 and at most its data
     /// bytes. Answers the slot and the bytes in use.
-    fn writing_place(self, disk: &Disk, place: &Writing) -> Option<(u8, usize)> {
+    fn writing_place(self, disk: &impl Density, place: &Writing) -> Option<(u8, usize)> {
         let slot = as_slot(place.slot)?;
         if flag(disk, slot) != OUTPUT_FILE {
             return None;
@@ -181,9 +206,9 @@ impl<V: Variant> Model<V> {
         if self.wrong(Fault::ThinStateFirst) && before == Channel::Closed {
             return Err(Status::ChannelClosed.into());
         }
-        let disk: &Disk = image.try_into().map_err(|_| Status::WrongImage)?;
+        let disk = self.disk(image)?;
         let mut channel = before;
-        let outcome = self.get_from(disk, &mut channel, buffer);
+        let outcome = on_disk!(disk, disk => self.get_from(disk, &mut channel, buffer));
         self.store(record, before, channel);
         outcome
     }
@@ -191,9 +216,9 @@ impl<V: Variant> Model<V> {
     /// The thin put: one lent record, advanced.
     pub(crate) fn run_thin_put(self, image: &mut [u8], words: &mut [u16], bytes: &[u8]) -> Outcome {
         let (record, before) = as_record(words)?;
-        let disk: &mut Disk = image.try_into().map_err(|_| Status::WrongImage)?;
+        let disk = self.disk_mut(image)?;
         let mut channel = before;
-        let outcome = self.put_to(disk, &mut channel, bytes);
+        let outcome = on_disk!(disk, disk => self.put_to(disk, &mut channel, bytes));
         if !self.wrong(Fault::ThinKeepsRecord) {
             self.store(record, before, channel);
         }

@@ -4,17 +4,23 @@
 //! bench [--scattered] [--repetitions N]
 //! ```
 //!
-//! Each line of the table is one kind of call. A repetition makes a number of such calls on each
-//! side, from the same disk; the times are medians of one call over all repetitions. A file lies
-//! in consecutive sectors, as on a disk that was filled from the start; with `--scattered` two
-//! files alternate sector by sector.
+//! Each line of the first table is one kind of call, on a raw image where it names no other. A
+//! repetition makes a number of such calls on each side, from the same disk; the times are
+//! medians of one call over all repetitions. A file lies in consecutive sectors, as on a disk
+//! that was filled from the start; with `--scattered` two files alternate sector by sector.
+//!
+//! The second table has gets of a whole disk beside as many calls of memcpy as it has sectors,
+//! each for a sector's data bytes, out of the same image into the same buffer.
 
+use std::hint::black_box;
+use std::ops::{Deref, DerefMut};
 use std::process::ExitCode;
-use std::time::{Duration, Instant};
+use std::time::Instant;
 
 use compare::side::{Side, LIBRARY, LIBRARY_NAME, MODEL};
 use compare::step::TABLE;
-use model::volume::fresh;
+use model::disk::DATA_SECTORS;
+use model::image::Kind;
 
 const REPETITIONS: usize = 301;
 
@@ -27,27 +33,106 @@ const PUT: u8 = 11;
 const CLOSE: u8 = 12;
 const STATUS: u8 = 13;
 const DELETE: u8 = 33;
+const FORMAT: u8 = 254;
 const READ: u8 = 4;
 const WRITE: u8 = 8;
 
-/// Bytes that fill a disk.
-const WHOLE_DISK: usize = 88_375;
+/// Device, unit and commands of a sector call.
+const DEVICE: u8 = 0x31;
+const UNIT: u8 = 1;
+const READ_SECTOR: u8 = 0x52;
+const WRITE_SECTOR: u8 = 0x57;
+
+/// The answer of a call that succeeds and counts nothing.
+const SUCCESS: u64 = 1;
+
+/// Words of a channel's record.
+const RECORD: usize = 5;
 
 /// Sectors of each of two files that fill a disk together.
 const SCATTERED: usize = 353;
 
-/// An image and a table.
+/// Calls of a repetition, where the disk allows any number of them.
+const CALLS: usize = 500;
+
+/// Bytes that fill a disk.
+fn whole_disk(kind: Kind) -> usize {
+    usize::from(DATA_SECTORS) * kind.data()
+}
+
+/// What a line calls an image that is not raw.
+fn prefix(kind: Kind) -> &'static str {
+    match kind {
+        Kind::Raw => "",
+        Kind::AtrSingle => "ATR, ",
+        Kind::AtrDouble => "double density, ",
+    }
+}
+
+/// Bytes that begin where a page of memory does. How image and buffer lie to each other makes a
+/// difference for copies, which is not to change from run to run.
 #[derive(Clone)]
+struct Bytes {
+    room: Vec<u8>,
+    start: usize,
+    length: usize,
+}
+
+impl Bytes {
+    fn new(value: u8, length: usize) -> Bytes {
+        const PAGE: usize = 4096;
+        let room = vec![value; length + PAGE];
+        let start = room.as_ptr().align_offset(PAGE).min(PAGE);
+        Bytes {
+            room,
+            start,
+            length,
+        }
+    }
+
+    fn of(bytes: &[u8]) -> Bytes {
+        let mut aligned = Bytes::new(0, bytes.len());
+        aligned.copy_from_slice(bytes);
+        aligned
+    }
+}
+
+impl Deref for Bytes {
+    type Target = [u8];
+
+    fn deref(&self) -> &[u8] {
+        &self.room[self.start..self.start + self.length]
+    }
+}
+
+impl DerefMut for Bytes {
+    fn deref_mut(&mut self) -> &mut [u8] {
+        &mut self.room[self.start..self.start + self.length]
+    }
+}
+
+/// An image and a table.
 struct Desk {
-    image: Vec<u8>,
+    kind: Kind,
+    image: Bytes,
     table: [u16; TABLE],
 }
 
 impl Desk {
-    fn new() -> Desk {
+    fn fresh(kind: Kind) -> Desk {
         Desk {
-            image: fresh(),
+            kind,
+            image: Bytes::of(&kind.fresh()),
             table: [0; TABLE],
+        }
+    }
+
+    /// Another image with the same bytes, and the same table.
+    fn copy(&self) -> Desk {
+        Desk {
+            kind: self.kind,
+            image: Bytes::of(&self.image),
+            table: self.table,
         }
     }
 
@@ -90,8 +175,15 @@ impl Desk {
             .with(CLOSE, 0, b"", &mut [])
     }
 
+    /// A file of all sectors.
+    fn with_whole_file(self) -> Desk {
+        let length = whole_disk(self.kind);
+        self.with_file(&file_name(0), length)
+    }
+
     /// Two files that were written in turn, a sector at a time.
     fn with_two_files(mut self) -> Desk {
+        let mut bytes = vec![0x5a; self.kind.data()];
         let (mut first, mut second) = ([0; TABLE], [0; TABLE]);
         for _ in 0..SCATTERED {
             for (table, slot) in [(&mut first, 0), (&mut second, 1)] {
@@ -99,7 +191,7 @@ impl Desk {
                 if table[0] == 0 {
                     self = self.with(OPEN, WRITE, &file_name(slot), &mut []);
                 }
-                self = self.with(PUT, 0, b"", &mut [0x5a; 125]);
+                self = self.with(PUT, 0, b"", &mut bytes);
                 *table = self.table;
             }
         }
@@ -111,17 +203,29 @@ impl Desk {
     }
 
     /// A full directory of files of one byte.
-    fn with_64_files(self) -> Desk {
-        (0..64).fold(self, |desk, slot| desk.with_file(&file_name(slot), 1))
+    fn with_64_files(self, name: fn(u8) -> Vec<u8>) -> Desk {
+        (0..64).fold(self, |desk, slot| desk.with_file(&name(slot), 1))
     }
 }
 
-fn file_name(slot: u8) -> [u8; 5] {
-    [b'D', b':', b'A' + slot / 8, b'0' + slot % 8, 0x9b]
+/// The name of a file.
+fn file_name(slot: u8) -> Vec<u8> {
+    vec![b'D', b':', b'A' + slot / 8, b'0' + slot % 8, 0x9b]
 }
 
-/// Makes calls on a side, and answers the time that one of them took.
-type Calls = dyn Fn(&dyn Side, &mut Desk) -> Duration;
+/// A name that differs from the others in its extension alone.
+fn name_alike(slot: u8) -> Vec<u8> {
+    format!("D:ABCDEFGH.X{slot:02}\0").into_bytes()
+}
+
+/// A name of eleven bytes that differs from the others in its first two.
+fn name_differing(slot: u8) -> Vec<u8> {
+    let [first, second] = [b'A' + slot / 8, b'A' + slot % 8].map(char::from);
+    format!("D:{first}{second}CDEFGH.DAT\0").into_bytes()
+}
+
+/// Makes calls on a side, and answers the nanoseconds that one of them took.
+type Calls = dyn Fn(&dyn Side, &mut Desk) -> f64;
 
 /// One line of the table: what is measured, from which disk, and how.
 struct Line {
@@ -130,146 +234,281 @@ struct Line {
     calls: Box<Calls>,
 }
 
-/// A line whose calls are all alike and follow on each other.
-fn transfers(command: u8, length: usize) -> Line {
-    let calls = (WHOLE_DISK / length).min(2000) as u32;
-    let (text, start) = if command == PUT {
-        ("put", Desk::new().with(OPEN, WRITE, b"D:A\x9b", &mut []))
-    } else {
-        let disk = Desk::new().with_file(b"D:A\x9b", WHOLE_DISK);
-        ("get", disk.with(OPEN, READ, b"D:A\x9b", &mut []))
-    };
-    let run = move |side: &dyn Side, desk: &mut Desk| {
-        let mut buffer = vec![0x5a; length];
-        let begun = Instant::now();
-        for _ in 0..calls {
-            let answer = desk.cio(side, command, 0, b"", &mut buffer);
-            assert_eq!(answer, 1 + 256 * length as u64);
+impl Line {
+    fn new(
+        text: impl Into<String>,
+        start: Desk,
+        calls: impl Fn(&dyn Side, &mut Desk) -> f64 + 'static,
+    ) -> Line {
+        Line {
+            text: format!("{}{}", prefix(start.kind), text.into()),
+            start,
+            calls: Box::new(calls),
         }
-        begun.elapsed() / calls
-    };
-    let bytes = if length == 1 { "byte" } else { "bytes" };
-    Line {
-        text: format!("{text} of {length} {bytes}"),
-        start,
-        calls: Box::new(run),
     }
 }
 
-/// Opens of the last of 64 files.
-fn open_last() -> Line {
-    let run = |side: &dyn Side, desk: &mut Desk| {
-        const CALLS: u32 = 500;
-        let name = file_name(63);
-        let begun = Instant::now();
-        for _ in 0..CALLS {
-            desk.table[0] = 0;
-            assert_eq!(desk.cio(side, OPEN, READ, &name, &mut []), 1);
-        }
-        begun.elapsed() / CALLS
-    };
-    let start = Desk::new().with_64_files();
-    Line {
-        text: "open of the 64th file".into(),
-        start,
-        calls: Box::new(run),
+/// The nanoseconds that one of so many calls takes, each of which must answer so.
+fn time(calls: usize, answer: u64, mut call: impl FnMut() -> u64) -> f64 {
+    let begun = Instant::now();
+    for _ in 0..calls {
+        assert_eq!(call(), answer);
     }
+    begun.elapsed().as_nanos() as f64 / calls as f64
+}
+
+/// The answer of a transfer of all bytes.
+fn transferred(length: usize) -> u64 {
+    SUCCESS + 256 * length as u64
+}
+
+/// So many bytes, in words.
+fn bytes(length: usize) -> String {
+    format!("{length} {}", if length == 1 { "byte" } else { "bytes" })
+}
+
+/// A disk with a file open on channel 0, at its beginning: for puts an empty one, for gets one of
+/// all sectors.
+fn opened(kind: Kind, command: u8) -> (&'static str, Desk) {
+    let desk = Desk::fresh(kind);
+    if command == PUT {
+        ("put", desk.with(OPEN, WRITE, &file_name(0), &mut []))
+    } else {
+        let desk = desk.with_whole_file();
+        ("get", desk.with(OPEN, READ, &file_name(0), &mut []))
+    }
+}
+
+/// Gets or puts that follow on each other: on a channel of the table, or thin ones on its record.
+fn transfers(kind: Kind, command: u8, length: usize, thin: bool) -> Line {
+    let calls = (whole_disk(kind) / length).min(2000);
+    let (verb, start) = opened(kind, command);
+    let manner = if thin { "thin " } else { "" };
+    let text = format!("{manner}{verb} of {}", bytes(length));
+    Line::new(text, start, move |side, desk| {
+        let mut buffer = Bytes::new(0x5a, length);
+        time(calls, transferred(length), || match (thin, command) {
+            (false, _) => desk.cio(side, command, 0, b"", &mut buffer),
+            (true, PUT) => side.thin_put(&mut desk.image, &mut desk.table[..RECORD], &mut buffer),
+            (true, _) => side.thin_get(&mut desk.image, &mut desk.table[..RECORD], &mut buffer),
+        })
+    })
 }
 
 /// Get of a whole file in every other sector.
-fn get_scattered() -> Line {
-    const LENGTH: usize = 125 * SCATTERED;
-    let run = |side: &dyn Side, desk: &mut Desk| {
-        let mut buffer = vec![0; LENGTH];
-        let begun = Instant::now();
-        let answer = desk.cio(side, GET, 0, b"", &mut buffer);
-        assert_eq!(answer, 1 + 256 * LENGTH as u64);
-        begun.elapsed()
-    };
-    let start = Desk::new()
+fn get_scattered(kind: Kind) -> Line {
+    let length = kind.data() * SCATTERED;
+    let start = Desk::fresh(kind)
         .with_two_files()
         .with(OPEN, READ, &file_name(0), &mut []);
-    Line {
-        text: format!("get of {LENGTH} bytes, every other sector"),
-        start,
-        calls: Box::new(run),
-    }
+    let text = format!("get of {length} bytes, every other sector");
+    Line::new(text, start, move |side, desk| {
+        let mut buffer = Bytes::new(0, length);
+        time(1, transferred(length), || {
+            desk.cio(side, GET, 0, b"", &mut buffer)
+        })
+    })
+}
+
+/// Opens of the last of 64 files.
+fn open_last(kind: Kind) -> Line {
+    let start = Desk::fresh(kind).with_64_files(file_name);
+    Line::new("open of the 64th file", start, |side, desk| {
+        let name = file_name(63);
+        time(CALLS, SUCCESS, || {
+            desk.table[0] = 0;
+            desk.cio(side, OPEN, READ, &name, &mut [])
+        })
+    })
 }
 
 /// Status of a name that none of 64 files has.
 fn status_of_none() -> Line {
-    let run = |side: &dyn Side, desk: &mut Desk| {
-        const CALLS: u32 = 500;
-        let begun = Instant::now();
-        for _ in 0..CALLS {
-            assert_eq!(desk.cio(side, STATUS, 0, b"D:NOTTHERE\x9b", &mut []), 170);
-        }
-        begun.elapsed() / CALLS
-    };
-    let start = Desk::new().with_64_files();
-    Line {
-        text: "status of a name not there".into(),
-        start,
-        calls: Box::new(run),
-    }
+    let start = Desk::fresh(Kind::Raw).with_64_files(file_name);
+    Line::new("status of a name not there", start, |side, desk| {
+        time(CALLS, 170, || {
+            desk.cio(side, STATUS, 0, b"D:NOTTHERE\x9b", &mut [])
+        })
+    })
+}
+
+/// Status of the last of 64 files with such names.
+fn status_of_last(kind: Kind, names: &str, name: fn(u8) -> Vec<u8>) -> Line {
+    let start = Desk::fresh(kind).with_64_files(name);
+    let text = format!("status of the 64th file, names {names}");
+    Line::new(text, start, move |side, desk| {
+        let name = name(63);
+        time(CALLS, SUCCESS, || desk.cio(side, STATUS, 0, &name, &mut []))
+    })
 }
 
 /// Delete of the file in slot 0.
 fn delete_first(text: String, start: Desk) -> Line {
-    let run = |side: &dyn Side, desk: &mut Desk| {
-        let begun = Instant::now();
-        assert_eq!(desk.cio(side, DELETE, 0, &file_name(0), &mut []), 1);
-        begun.elapsed()
-    };
-    Line {
-        text,
-        start,
-        calls: Box::new(run),
-    }
+    Line::new(text, start, |side, desk| {
+        let name = file_name(0);
+        time(1, SUCCESS, || desk.cio(side, DELETE, 0, &name, &mut []))
+    })
 }
 
 /// Delete of a file of all 707 sectors.
-fn delete_whole() -> Line {
-    let start = Desk::new().with_file(&file_name(0), WHOLE_DISK);
+fn delete_whole(kind: Kind) -> Line {
+    let start = Desk::fresh(kind).with_whole_file();
     delete_first("delete of 707 sectors".into(), start)
 }
 
 /// Delete of a file in every other sector.
-fn delete_scattered() -> Line {
+fn delete_scattered(kind: Kind) -> Line {
     let text = format!("delete of {SCATTERED} sectors, every other one");
-    delete_first(text, Desk::new().with_two_files())
+    delete_first(text, Desk::fresh(kind).with_two_files())
 }
 
 /// Recovery of a file of all 707 sectors.
-fn recover_whole() -> Line {
-    let run = |side: &dyn Side, desk: &mut Desk| {
-        let begun = Instant::now();
-        assert_eq!(side.recover(&mut desk.image, 0), 1 + 256 * 707);
-        begun.elapsed()
-    };
-    let start = Desk::new().with_file(b"D:A\x9b", WHOLE_DISK);
-    let start = start.with(DELETE, 0, b"D:A\x9b", &mut []);
-    Line {
-        text: "recovery of 707 sectors".into(),
-        start,
-        calls: Box::new(run),
-    }
+fn recover_whole(kind: Kind) -> Line {
+    let start = Desk::fresh(kind).with_whole_file();
+    let start = start.with(DELETE, 0, &file_name(0), &mut []);
+    let answer = SUCCESS + 256 * u64::from(DATA_SECTORS);
+    Line::new("recovery of 707 sectors", start, move |side, desk| {
+        time(1, answer, || side.recover(&mut desk.image, 0))
+    })
 }
 
-/// The median time of a line's call on each side; the sides take turns.
-fn measure(line: &Line, repetitions: usize) -> [Duration; 2] {
-    let mut desk = line.start.clone();
+/// Reads or writes of one sector.
+fn sector(kind: Kind, command: u8) -> Line {
+    const SECTOR: u16 = 400;
+    let size = kind.sector_size(SECTOR);
+    let text = match command {
+        READ_SECTOR => "sector read",
+        _ => "sector write",
+    };
+    Line::new(text, Desk::fresh(kind), move |side, desk| {
+        let mut buffer = Bytes::new(0x5a, size);
+        time(CALLS, transferred(size), || {
+            side.sector(&mut desk.image, DEVICE, UNIT, command, SECTOR, &mut buffer)
+        })
+    })
+}
+
+/// Format of a full disk.
+fn format_whole(kind: Kind) -> Line {
+    let start = Desk::fresh(kind).with_whole_file();
+    Line::new("format", start, |side, desk| {
+        time(1, SUCCESS, || desk.cio(side, FORMAT, 0, b"D:\x9b", &mut []))
+    })
+}
+
+/// The lines of the table.
+fn lines(scattered: bool) -> Vec<Line> {
+    let (raw, double) = (Kind::Raw, Kind::AtrDouble);
+    if scattered {
+        return [raw, double]
+            .into_iter()
+            .flat_map(|kind| [get_scattered(kind), delete_scattered(kind)])
+            .collect();
+    }
+    let mut lines = Vec::new();
+    for kind in [raw, double] {
+        for command in [PUT, GET] {
+            let lengths = [1, kind.data(), 10_000, whole_disk(kind)];
+            lines.extend(lengths.map(|length| transfers(kind, command, length, false)));
+        }
+        lines.push(open_last(kind));
+        if kind == raw {
+            lines.push(status_of_none());
+        }
+        lines.extend([delete_whole(kind), recover_whole(kind)]);
+        lines.extend([PUT, GET].map(|command| transfers(kind, command, 1, true)));
+        lines.push(status_of_last(kind, "that differ", name_differing));
+        lines.push(status_of_last(kind, "alike in eight letters", name_alike));
+        lines.push(format_whole(kind));
+    }
+    for kind in Kind::ALL {
+        lines.extend([READ_SECTOR, WRITE_SECTOR].map(|command| sector(kind, command)));
+    }
+    lines
+}
+
+/// The median times of two things that are measured in turn.
+fn medians<T>(repetitions: usize, things: [T; 2], mut measure: impl FnMut(&T) -> f64) -> [f64; 2] {
     let mut times = [Vec::new(), Vec::new()];
     for _ in 0..repetitions {
-        for (side, times) in [LIBRARY, MODEL].into_iter().zip(&mut times) {
-            desk.copy_from(&line.start);
-            times.push((line.calls)(side, &mut desk));
+        for (thing, times) in things.iter().zip(&mut times) {
+            times.push(measure(thing));
         }
     }
     times.map(|mut times| {
-        times.sort();
+        times.sort_by(f64::total_cmp);
         times[times.len() / 2]
     })
+}
+
+/// The median time of a line's call on each side.
+fn measure(line: &Line, repetitions: usize) -> [f64; 2] {
+    let mut desk = line.start.copy();
+    medians(repetitions, [LIBRARY, MODEL], |&side| {
+        desk.copy_from(&line.start);
+        (line.calls)(side, &mut desk)
+    })
+}
+
+/// How the bytes of a whole disk are had.
+enum Way {
+    Get,
+    Copies,
+}
+
+/// The median times of a get of a whole disk by the library, and of as many calls of memcpy as
+/// it has sectors.
+fn measure_copies(kind: Kind, repetitions: usize) -> [f64; 2] {
+    let (_, mut desk) = opened(kind, GET);
+    let table = desk.table;
+    let length = whole_disk(kind);
+    let mut buffer = Bytes::new(0, length);
+    medians(repetitions, [Way::Get, Way::Copies], |way| {
+        desk.table = table;
+        time(1, transferred(length), || match way {
+            Way::Get => desk.cio(LIBRARY, GET, 0, b"", &mut buffer),
+            Way::Copies => {
+                copy_sectors(kind, &desk.image, &mut buffer);
+                transferred(length)
+            }
+        })
+    })
+}
+
+/// Copies the data bytes of each data sector into the buffer. The compiler is not told their
+/// number, so that it calls memcpy.
+fn copy_sectors(kind: Kind, image: &[u8], buffer: &mut [u8]) {
+    let data = black_box(kind.data());
+    let part = |first, end| {
+        let bytes = &image[kind.sector_start(first)..kind.sector_start(end)];
+        bytes.chunks_exact(kind.sector_size(first))
+    };
+    let sectors = part(4, 360).chain(part(369, 720));
+    for (to, sector) in buffer.chunks_exact_mut(data).zip(sectors) {
+        to.copy_from_slice(&sector[..data]);
+    }
+    black_box(buffer);
+}
+
+/// Prints a line of a table.
+fn print_row(text: &str, [first, second]: [f64; 2]) {
+    let ratio = first / second;
+    println!(
+        "| {text} | {} | {} | {ratio:.2} |",
+        nanoseconds(first),
+        nanoseconds(second)
+    );
+}
+
+/// A time, with a decimal where it is short.
+fn nanoseconds(time: f64) -> String {
+    let decimals = if time < 100.0 { 1 } else { 0 };
+    format!("{time:.decimals$}")
+}
+
+fn print_head(first: &str, second: &str, third: &str) {
+    println!("| {first} | {second}, ns | {third}, ns | ratio |");
+    println!("|---|---:|---:|---:|");
 }
 
 /// What the command line asks for.
@@ -293,24 +532,6 @@ fn options(mut words: impl Iterator<Item = String>) -> Option<Options> {
     (options.repetitions > 0).then_some(options)
 }
 
-/// The lines of the table.
-fn lines(scattered: bool) -> Vec<Line> {
-    if scattered {
-        return vec![get_scattered(), delete_scattered()];
-    }
-    let lengths = [1, 125, 10_000, WHOLE_DISK];
-    let transfers = [PUT, GET]
-        .into_iter()
-        .flat_map(|command| lengths.map(|length| transfers(command, length)));
-    let others = [
-        open_last(),
-        status_of_none(),
-        delete_whole(),
-        recover_whole(),
-    ];
-    transfers.chain(others).collect()
-}
-
 fn main() -> ExitCode {
     let words: Vec<String> = std::env::args().skip(1).collect();
     if words.iter().any(|word| word == "--help") {
@@ -321,12 +542,17 @@ fn main() -> ExitCode {
         eprintln!("{USAGE}");
         return ExitCode::FAILURE;
     };
-    println!("| Call | {LIBRARY_NAME}, ns | model, ns | ratio |");
-    println!("|---|---:|---:|---:|");
+    print_head("Call", LIBRARY_NAME, "model");
     for line in lines(options.scattered) {
-        let [library, model] = measure(&line, options.repetitions).map(|time| time.as_nanos());
-        let ratio = library as f64 / model as f64;
-        println!("| {} | {library} | {model} | {ratio:.2} |", line.text);
+        print_row(&line.text, measure(&line, options.repetitions));
+    }
+    if !options.scattered {
+        println!();
+        print_head("Get of a whole disk", LIBRARY_NAME, "memcpys");
+        for kind in Kind::ALL {
+            let text = format!("{}707 memcpys of {} bytes", prefix(kind), kind.data());
+            print_row(&text, measure_copies(kind, options.repetitions));
+        }
     }
     ExitCode::SUCCESS
 }

@@ -22,6 +22,7 @@ use compare::side::{Side, LIBRARY, LIBRARY_NAME, MODEL};
 use compare::statistics::Statistics;
 use compare::step::Step;
 use model::fault::FAULTS;
+use model::image::Kind;
 use model::Model;
 
 /// Calls of a run, and of a long one.
@@ -145,8 +146,10 @@ fn report(pair: &mut Pair, seed: u64, failure: Failure) {
         "# a difference after {} calls; a short list of calls that shows it:",
         failure.calls
     );
-    println!("{}", Step::Fresh);
     let shrunk = shortest(pair, seed, failure);
+    if !matches!(shrunk.steps.first(), Some(Step::Fresh(_))) {
+        println!("{}", Step::Fresh(Kind::Raw));
+    }
     for step in &shrunk.steps {
         println!("{step}");
     }

@@ -1,7 +1,7 @@
 //! Calls of every kind.
 
-use model::directory::{first, flag, DELETED, SLOTS};
-use model::disk::{is_data_sector, sector_start};
+use model::directory::{DELETED, SLOTS};
+use model::disk::{is_data_sector, SECTORS};
 
 use crate::step::{Buffer, Call};
 use crate::world::World;
@@ -30,6 +30,7 @@ enum Kind {
     ThinGet,
     ThinPut,
     Name,
+    Header,
 }
 
 const KINDS: &[(usize, Kind)] = &[
@@ -52,6 +53,7 @@ const KINDS: &[(usize, Kind)] = &[
     (35, Kind::ThinGet),
     (35, Kind::ThinPut),
     (25, Kind::Name),
+    (15, Kind::Header),
 ];
 
 impl Generator {
@@ -87,8 +89,52 @@ impl Generator {
                 }
             }
             Kind::Name => self.name_call(world),
+            Kind::Header => Call::Header,
             _ => self.cio(world, kind),
         }
+    }
+
+    /// A call that is refused whatever the disk: where the image is refused too, the answer shows
+    /// which comes first.
+    pub(super) fn refused_call(&mut self) -> Call {
+        let buffer = Buffer::Fill(1, 0);
+        match self.random.below(5) {
+            0 => Call::Recover { slot: 64 },
+            1 => Call::Sector {
+                device: 0x30,
+                unit: 1,
+                command: 0x52,
+                sector: 0,
+                buffer,
+            },
+            2 => Call::ThinGet {
+                words: vec![0; 5],
+                buffer,
+            },
+            3 => Call::ThinPut {
+                words: vec![0; 5],
+                buffer,
+            },
+            _ => Call::Cio {
+                channel: 8,
+                command: self.random.byte(),
+                direction: 4,
+                name: Vec::new(),
+                buffer,
+            },
+        }
+    }
+
+    /// Plans a format behind closes of all open channels.
+    pub(super) fn format_anew(&mut self, world: &World) {
+        let name = self.device_alone(world);
+        for channel in (0..8).filter(|&channel| world.record(channel.into())[0] != 0) {
+            let close = self.command(Kind::Close);
+            self.planned
+                .push_back(plain_cio(channel, close, Vec::new()).into());
+        }
+        let format = self.command(Kind::Format);
+        self.planned.push_back(plain_cio(0, format, name).into());
     }
 
     /// A CIO command. What it does not need is random.
@@ -167,32 +213,36 @@ impl Generator {
 
     fn get_buffer(&mut self) -> Buffer {
         let length = match self.random.below(100) {
-            0..6 => 0,
-            6..25 => self.random.between(1, 5),
-            25..40 => self.random.between(120, 130),
-            40..50 => self.random.between(245, 255),
+            0..50 => self.short_transfer(),
             50..75 => self.random.between(1, 400),
             75..96 => self.random.between(1, 3000),
-            _ => 90_000,
+            _ => self.kind.length(),
         };
         Buffer::Fill(length, self.random.byte())
     }
 
     fn put_buffer(&mut self) -> Buffer {
         let length = match self.random.below(100) {
-            0..6 => 0,
-            6..25 => self.random.between(1, 5),
-            25..40 => self.random.between(120, 130),
-            40..50 => self.random.between(245, 255),
+            0..50 => self.short_transfer(),
             50..80 => self.random.between(1, 400),
             80..95 => self.random.between(1, 3000),
             95..98 => self.random.between(1, 40_000),
-            _ => 90_000,
+            _ => self.kind.length(),
         };
         if length <= 3000 && self.random.chance(800) {
             Buffer::Bytes(self.random.bytes(length))
         } else {
             Buffer::Fill(length, self.random.byte())
+        }
+    }
+
+    /// The length of a transfer of no bytes, of a few, or of about one or two sectors.
+    fn short_transfer(&mut self) -> usize {
+        match self.random.below(50) {
+            0..6 => 0,
+            6..25 => self.random.between(1, 5),
+            25..40 => self.near(self.kind.data()),
+            _ => self.near(2 * self.kind.data()),
         }
     }
 
@@ -225,7 +275,7 @@ impl Generator {
                 let slot = self.some_slot(world);
                 self.sector_of(world, slot)
             }
-            5 => self.random.pick(&[0, 1, 720, 721]),
+            5 => self.random.pick(&[0, 1, 2, 3, 4, 720, 721]),
             6 => self.random.between(360, 368) as u16,
             _ => self.random.between(1, 720) as u16,
         };
@@ -241,13 +291,15 @@ impl Generator {
 
     /// Bytes for a sector call: mostly those that the sector has, but for one.
     fn sector_bytes(&mut self, world: &World, sector: u16) -> Vec<u8> {
-        let lengths = [(90, 128), (3, 127), (3, 129), (2, 0), (2, 256)];
+        let size = self.kind.sector_size(sector);
+        let other = 128 + 256 - size;
+        let lengths = [(88, size), (3, size - 1), (3, size + 1), (2, 0), (4, other)];
         let length = self.random.weighted(&lengths);
         let mut bytes = self.random.bytes(length);
-        if length == 128 && (1..=720).contains(&sector) && self.random.chance(700) {
-            let at = sector_start(sector);
-            bytes.copy_from_slice(&world.disk()[at..at + 128]);
-            let place = self.random.pick(&[0, 3, 64, 124, 127]);
+        if length == size && (1..=SECTORS).contains(&sector) && self.random.chance(700) {
+            let at = self.kind.sector_start(sector);
+            bytes.copy_from_slice(&world.image[at..at + size]);
+            let place = self.random.pick(&[0, 3, 64, 124, 127, size - 4, size - 1]);
             bytes[place] = self.random.byte();
         }
         bytes
@@ -295,12 +347,22 @@ impl Generator {
     }
 }
 
+/// A CIO command that needs neither direction nor buffer.
+fn plain_cio(channel: u8, command: u8, name: Vec<u8>) -> Call {
+    Call::Cio {
+        channel,
+        command,
+        direction: 0,
+        name,
+        buffer: Buffer::Fill(0, 0),
+    }
+}
+
 /// The kind of call, or where it would find nothing to do, the one that makes it possible.
 fn possible(world: &World, kind: Kind) -> Kind {
     let has_channel = |wanted| (0..8).any(|channel| world.record(channel)[0] == wanted);
-    let disk = world.disk();
-    let has_deleted = || (0..SLOTS).any(|slot| flag(disk, slot) & DELETED != 0);
-    let has_file = || flag(disk, 0) != 0;
+    let has_deleted = || (0..SLOTS).any(|slot| world.flag(slot) & DELETED != 0);
+    let has_file = || world.flag(0) != 0;
     match kind {
         Kind::Get if !has_channel(1) => Kind::OpenRead,
         Kind::Put if !has_channel(2) => Kind::OpenWrite,
@@ -319,14 +381,13 @@ fn rest_of_sector(world: &World, channel: u8) -> usize {
         0..8 => world.record(channel.into()),
         _ => return 1,
     };
-    let disk = world.disk();
     let (sector, offset) = match sector {
-        0 if slot < u16::from(SLOTS) => (first(disk, slot as u8), 0),
+        0 if slot < u16::from(SLOTS) => (world.first(slot as u8), 0),
         _ => (sector, offset),
     };
     if !is_data_sector(sector) {
         return 1;
     }
-    let used = disk[sector_start(sector) + 127];
+    let [_, _, used] = world.tail(sector);
     usize::from(used).saturating_sub(offset.into())
 }

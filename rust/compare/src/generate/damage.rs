@@ -1,28 +1,25 @@
 //! Damage: bytes of the disk changed by hand.
 
-use model::directory::{count, flag, slot_name};
-use model::disk::sector_start;
-use model::volume::free_count;
+use model::disk::{is_data_sector, DATA_SECTORS};
+use model::image::{Kind, AGREEING, HEADER};
 
-use crate::step::Step;
-use crate::world::World;
+use crate::step::{Call, Step};
+use crate::world::{sector_and_byte, World};
 
 use super::Generator;
 
-/// Where the volume table and its map begin in the image.
-const TABLE: usize = 359 * 128;
-const MAP: usize = TABLE + 10;
+/// The sector of the volume table.
+const TABLE: u16 = 360;
+/// Where the free count and the map stand in it.
+const FREE_COUNT: usize = 3;
+const MAP: usize = 10;
 /// Map bytes with the bits that are no data sector's.
 const RESERVED: [(usize, u8); 3] = [(0, 0xf0), (45, 0xff), (46, 0x80)];
-
-/// Where a slot begins in the image.
-fn slot_start(slot: u8) -> usize {
-    360 * 128 + 16 * usize::from(slot)
-}
 
 /// What can be damaged.
 #[derive(Clone, Copy)]
 enum Place {
+    Header,
     TableByte,
     DataBit,
     ReservedBit,
@@ -37,6 +34,7 @@ enum Place {
 
 /// How often each is.
 const PLACES: &[(usize, Place)] = &[
+    (16, Place::Header),
     (4, Place::TableByte),
     (16, Place::DataBit),
     (4, Place::ReservedBit),
@@ -51,7 +49,8 @@ const PLACES: &[(usize, Place)] = &[
 
 impl Generator {
     fn poke(&mut self, at: usize, value: u8) {
-        let (sector, byte) = ((at / 128 + 1) as u16, (at % 128) as u8);
+        let (sector, byte) = sector_and_byte(self.kind, at);
+        let byte = byte as u8;
         self.planned.push_back(Step::Poke {
             sector,
             byte,
@@ -65,15 +64,22 @@ impl Generator {
         self.poke(at + 1, high);
     }
 
+    /// A byte of the volume table, as a place in the image.
+    fn table(&self, byte: usize) -> usize {
+        self.kind.sector_start(TABLE) + byte
+    }
+
     /// Plans one damage.
     pub(super) fn damage(&mut self, world: &World) {
         let place = self.random.weighted(PLACES);
         let slot = self.some_slot(world);
         match place {
+            Place::Header => self.damage_header(world),
             Place::TableByte => {
-                let byte = self.random.pick(&[0, 1, 2, 5, 9, 10, 99, 100, 127]);
+                let last = self.kind.sector_size(TABLE) - 1;
+                let byte = self.random.pick(&[0, 1, 2, 5, 9, 10, 99, 100, 127, last]);
                 let value = self.random.byte();
-                self.poke(TABLE + byte, value);
+                self.poke(self.table(byte), value);
             }
             Place::DataBit => {
                 let sector = self.sector_of(world, slot);
@@ -85,34 +91,81 @@ impl Generator {
             }
             Place::FreeCount => {
                 let change = self.random.pick(&[1, 65535, 256]);
-                self.poke_word(TABLE + 3, free_count(world.disk()).wrapping_add(change));
+                let at = self.table(FREE_COUNT);
+                self.poke_word(at, world.word(at).wrapping_add(change));
             }
             Place::Flag => self.damage_flag(slot),
             Place::Count => self.damage_count(world, slot),
             Place::First => {
                 let sector = self.sector_of(world, slot);
-                self.poke_word(slot_start(slot) + 3, sector);
+                self.poke_word(self.kind.slot_start(slot) + 3, sector);
             }
             Place::Name => self.damage_name(world, slot),
             Place::Tail => self.damage_tail(world, slot),
-            Place::Anything => {
-                let at = self.random.below(720 * 128);
-                let value = self.random.byte();
-                self.poke(at, value);
+            Place::Anything => self.damage_anything(),
+        }
+    }
+
+    fn damage_anything(&mut self) {
+        let at = self.random.below(self.kind.length());
+        let value = self.random.byte();
+        self.poke(at, value);
+    }
+
+    /// Changes a byte of the header or its last nine, or gives it that of the other density.
+    fn damage_header(&mut self, world: &World) {
+        if self.kind == Kind::Raw {
+            return self.damage_anything();
+        }
+        match self.random.below(5) {
+            0 => {
+                let other = match self.kind {
+                    Kind::AtrSingle => Kind::AtrDouble,
+                    _ => Kind::AtrSingle,
+                };
+                self.poke_header(other);
             }
+            1..3 => {
+                for place in AGREEING..HEADER {
+                    let value = self.random.byte();
+                    self.poke(place, value);
+                }
+            }
+            _ => {
+                let place = self.random.below(AGREEING);
+                let bit = 1 << self.random.below(8);
+                self.poke(place, world.image[place] ^ bit);
+            }
+        }
+    }
+
+    /// Makes the header agree again, by the call or by hand.
+    pub(super) fn mend_header(&mut self) {
+        if self.random.chance(500) {
+            self.planned.push_back(Call::Header.into());
+        } else {
+            self.poke_header(self.kind);
+        }
+    }
+
+    /// Sets the bytes of the header that are looked at.
+    fn poke_header(&mut self, kind: Kind) {
+        let header = kind.header().unwrap_or_default();
+        for (place, value) in header.into_iter().take(AGREEING).enumerate() {
+            self.poke(place, value);
         }
     }
 
     /// Changes one byte of a slot's name, or gives it another slot's.
     fn damage_name(&mut self, world: &World, slot: u8) {
-        let at = slot_start(slot) + 5;
+        let at = self.kind.slot_start(slot) + 5;
         if self.random.chance(500) {
             let byte = self.random.pick(b" A1a.\x9b\0\xff");
             let place = self.random.below(11);
             return self.poke(at + place, byte);
         }
         let other = self.some_slot(world);
-        for (place, byte) in slot_name(world.disk(), other).into_iter().enumerate() {
+        for (place, byte) in world.slot_name(other).into_iter().enumerate() {
             self.poke(at + place, byte);
         }
     }
@@ -120,25 +173,27 @@ impl Generator {
     /// Turns a map bit over and sets the free count to the number of ones.
     fn flip_bit(&mut self, world: &World, sector: usize) {
         let (byte, bit) = (sector / 8, 0x80 >> (sector % 8));
-        let bits = world.disk()[MAP + byte];
-        self.poke(MAP + byte, bits ^ bit);
+        let at = self.table(MAP + byte);
+        let bits = world.image[at];
+        self.poke(at, bits ^ bit);
         let ones = ones(world) - u16::from(bits & bit != 0) + u16::from(bits & bit == 0);
-        self.poke_word(TABLE + 3, ones);
+        self.poke_word(self.table(FREE_COUNT), ones);
     }
 
     /// Makes the volume table good again, with the map as it is.
     pub(super) fn mend_table(&mut self, world: &World) {
-        self.poke(TABLE, 2);
-        self.poke_word(TABLE + 1, 707);
+        self.poke(self.table(0), 2);
+        self.poke_word(self.table(1), DATA_SECTORS);
         let mut ones = ones(world);
         for (byte, bits) in RESERVED {
-            let value = world.disk()[MAP + byte];
+            let at = self.table(MAP + byte);
+            let value = world.image[at];
             if value & bits != 0 {
-                self.poke(MAP + byte, value & !bits);
+                self.poke(at, value & !bits);
                 ones -= (value & bits).count_ones() as u16;
             }
         }
-        self.poke_word(TABLE + 3, ones);
+        self.poke_word(self.table(FREE_COUNT), ones);
     }
 
     fn damage_flag(&mut self, slot: u8) {
@@ -147,11 +202,11 @@ impl Generator {
             0x80, 0x80, 0x81, 0xa2, 0xc0, 0xc2, 0xc3, 0xff,
         ];
         let flag = self.random.pick(FLAGS);
-        self.poke(slot_start(slot), flag);
+        self.poke(self.kind.slot_start(slot), flag);
     }
 
     fn damage_count(&mut self, world: &World, slot: u8) {
-        let now = count(world.disk(), slot);
+        let now = world.count(slot);
         let any = self.random.bits() as u16;
         let near = [
             now.wrapping_add(1),
@@ -166,22 +221,20 @@ impl Generator {
             any,
         ];
         let count = self.random.pick(&near);
-        self.poke_word(slot_start(slot) + 1, count);
+        self.poke_word(self.kind.slot_start(slot) + 1, count);
     }
 
     /// Changes the slot number, the next sector or the count of a sector on a chain.
     fn damage_tail(&mut self, world: &World, slot: u8) {
         let sector = self.sector_of(world, slot);
-        if !(1..=720).contains(&sector) {
+        if !is_data_sector(sector) {
             return self.damage_flag(slot);
         }
-        let at = sector_start(sector) + 125;
-        let [high, low] = [world.disk()[at], world.disk()[at + 1]];
+        let at = world.tail_start(sector);
+        let [high, low, _] = world.tail(sector);
         match self.random.below(4) {
             0 => {
-                let other = self
-                    .random
-                    .pick(&[slot + 1, slot, 0, 63, flag(world.disk(), 0)]);
+                let other = self.random.pick(&[slot + 1, slot, 0, 63, world.flag(0)]);
                 self.poke(at, other << 2 | high & 3);
             }
             1 | 2 => {
@@ -196,9 +249,9 @@ impl Generator {
                 }
             }
             _ => {
-                let used = self
-                    .random
-                    .pick(&[0, 0, 1, 100, 124, 125, 125, 126, 127, 128, 255]);
+                let full = self.kind.data() as u8;
+                let counts = [0, 0, 1, 100, full - 1, full, full, full + 1, 128, 255];
+                let used = self.random.pick(&counts);
                 self.poke(at + 2, used);
             }
         }
@@ -207,7 +260,8 @@ impl Generator {
 
 /// The ones in the map.
 fn ones(world: &World) -> u16 {
-    world.disk()[MAP..MAP + 90]
+    let map = world.kind.sector_start(TABLE) + MAP;
+    world.image[map..map + 90]
         .iter()
         .map(|bits| bits.count_ones() as u16)
         .sum()

@@ -11,13 +11,14 @@ mod set_up;
 
 use std::collections::VecDeque;
 
-use model::directory::{count, first, flag, SLOTS};
-use model::disk::{is_data_sector, DATA_SECTORS, SECTORS};
-use model::RIGHT;
+use model::directory::SLOTS;
+use model::disk::{is_data_sector, DATA_SECTORS};
+use model::image::{is_served, Kind};
+use model::volume::has_good_table;
 
 use crate::random::Random;
 use crate::step::{Call, Lengths, Step, TABLE};
-use crate::world::World;
+use crate::world::{World, SPARE};
 
 /// What kind of steps a case has.
 struct Style {
@@ -33,10 +34,19 @@ struct Style {
     bad_names: usize,
 }
 
+/// How often a case has an image of each kind.
+const KINDS: &[(usize, Kind)] = &[
+    (40, Kind::Raw),
+    (25, Kind::AtrSingle),
+    (35, Kind::AtrDouble),
+];
+
 /// The steps of one case.
 pub struct Generator {
     random: Random,
     style: Style,
+    /// What the image of the case is.
+    kind: Kind,
     /// Names that the case uses over and over.
     pool: Vec<Vec<u8>>,
     /// Steps already decided on.
@@ -73,13 +83,18 @@ impl Generator {
             },
         };
         let left = random.between(30, 250);
+        let kind = random.weighted(KINDS);
         let mut generator = Generator {
             random,
             style,
+            kind,
             pool: Vec::new(),
             planned: VecDeque::new(),
             left,
         };
+        if kind != Kind::Raw {
+            generator.planned.push_back(Step::Fresh(kind));
+        }
         for _ in 0..generator.random.between(3, 8) {
             let text = generator.legal_text();
             generator.pool.push(text);
@@ -113,34 +128,57 @@ impl Generator {
                 return;
             }
         }
-        if !RIGHT.table_is_good(world.disk()) && self.random.chance(300) {
+        let served = is_served(world.image());
+        if !served && self.random.chance(150) {
+            self.mend_header();
+        } else if served && !has_good_table(world.image()) && self.random.chance(300) {
             self.mend_table(world);
         } else if self.random.chance(self.style.damage) {
             self.damage(world);
         } else if self.random.chance(self.style.records) {
             self.set_records(world);
+        } else if self.random.chance(10) {
+            self.format_anew(world);
         } else {
-            let call = self.call(world);
+            let mut call = self.call(world);
             let lengths = self.lengths(&call);
+            let whole = lengths.is_none_or(|lengths| lengths.image == self.kind.length());
+            if !(served && whole) && self.random.chance(200) {
+                call = self.refused_call();
+            }
             self.planned.push_back(Step::Call { call, lengths });
         }
     }
 
     /// Mostly the right lengths.
-    fn lengths(&mut self, call: &Call) -> Lengths {
-        let mut lengths = Lengths::RIGHT;
-        let thin = matches!(call, Call::ThinGet { .. } | Call::ThinPut { .. });
-        if self.random.chance(if thin { 60 } else { 25 }) {
-            let whole = lengths.image;
-            let others = [0, 1, 128, whole - 128, whole - 1, whole + 1, whole + 128];
-            lengths.image = self.random.pick(&others);
+    fn lengths(&mut self, call: &Call) -> Option<Lengths> {
+        let right = Lengths::of(self.kind);
+        let mut lengths = right;
+        let often = match call {
+            Call::ThinGet { .. } | Call::ThinPut { .. } => 60,
+            Call::Header => 300,
+            _ => 25,
+        };
+        if self.random.chance(often) {
+            lengths.image = self.wrong_length();
         }
         if self.random.chance(8) {
             lengths.table = self
                 .random
                 .pick(&[0, 5, 35, TABLE - 1, TABLE + 1, TABLE + 5]);
         }
-        lengths
+        (lengths != right).then_some(lengths)
+    }
+
+    /// A length that the image mostly has not. One of another kind can be served, as another disk.
+    fn wrong_length(&mut self) -> usize {
+        let whole = self.kind.length();
+        if !self.style.sound && self.random.chance(300) {
+            let lengths = Kind::ALL.map(Kind::length);
+            return self.random.pick(&lengths).min(whole + SPARE);
+        }
+        let others = [0, 1, 16, 128, whole - 128, whole - 1, whole + 1];
+        self.random.pick(&others)
     }
 
     /// A slot: mostly one that a channel names or that is in use.
@@ -158,9 +196,8 @@ impl Generator {
 
     /// A slot with a flag as asked for, or now and then any.
     fn slot_that(&mut self, world: &World, wanted: impl Fn(u8) -> bool) -> u8 {
-        let disk = world.disk();
         let slots: Vec<u8> = (0..SLOTS)
-            .filter(|&slot| wanted(flag(disk, slot)))
+            .filter(|&slot| wanted(world.flag(slot)))
             .collect();
         if slots.is_empty() || self.random.chance(80) {
             return self.random.below(SLOTS.into()) as u8;
@@ -180,6 +217,11 @@ impl Generator {
             };
         }
         self.some_sector()
+    }
+
+    /// A number of bytes close to the one given.
+    fn near(&mut self, bytes: usize) -> usize {
+        self.random.between(bytes - 5, bytes + 5)
     }
 
     /// A sector's number: of any data sector, of one at a border, or of none.
@@ -202,12 +244,12 @@ impl Generator {
         };
         let offset = match self.random.below(8) {
             0..3 => 0,
-            3..6 => self.random.between(0, 125),
-            6 => self.random.between(120, 130),
-            _ => self.random.pick(&[126, 255, 256, 65535]),
+            3..6 => self.random.between(0, self.kind.data()),
+            6 => self.near(self.kind.data()),
+            _ => self.random.pick(&[126, 254, 255, 256, 65535]),
         };
         let left = match self.random.below(6) {
-            0..3 => usize::from(count(world.disk(), slot)),
+            0..3 => usize::from(world.count(slot)),
             3 => self.random.between(0, 3),
             4 => self.random.between(0, 720),
             _ => self.random.pick(&[0, 707, 708, 65535]),
@@ -254,15 +296,12 @@ impl Generator {
 
 /// The data sectors that a slot's links lead to, no more than a disk has.
 fn chain(world: &World, slot: u8) -> Vec<u16> {
-    let disk = world.disk();
+    let data_sector = |sector| is_data_sector(sector).then_some(sector);
     let link = |&sector: &u16| {
-        let at = usize::from(sector - 1) * 128 + 125;
-        let next = u16::from_be_bytes([disk[at] & 3, disk[at + 1]]);
-        is_data_sector(next).then_some(next)
+        let [high, low, _] = world.tail(sector);
+        data_sector(u16::from_be_bytes([high & 3, low]))
     };
-    let first =
-        Some(first(disk, slot)).filter(|&sector| sector < SECTORS && is_data_sector(sector));
-    std::iter::successors(first, link)
+    std::iter::successors(data_sector(world.first(slot)), link)
         .take(DATA_SECTORS.into())
         .collect()
 }

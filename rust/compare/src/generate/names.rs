@@ -1,6 +1,6 @@
 //! Names, legal and not.
 
-use model::directory::{flag, slot_name, IN_USE};
+use model::directory::IN_USE;
 
 use crate::world::World;
 
@@ -29,7 +29,7 @@ impl Generator {
 
     /// The text of a name: so often of a thousand that of a slot, else from the pool or a new one.
     fn text(&mut self, world: &World, of_slot: usize) -> Vec<u8> {
-        if self.random.chance(of_slot) && flag(world.disk(), 0) != 0 {
+        if self.random.chance(of_slot) && world.flag(0) != 0 {
             let slot = self.slot_that(world, |flag| flag & IN_USE != 0);
             return slot_text(world, slot);
         }
@@ -145,7 +145,7 @@ impl Generator {
 
 /// The text of the name that a slot has, whatever its bytes are.
 fn slot_text(world: &World, slot: u8) -> Vec<u8> {
-    let name = slot_name(world.disk(), slot);
+    let name = world.slot_name(slot);
     let (stem, extension) = name.split_at(8);
     let mut text = stem.trim_ascii_end().to_vec();
     if !extension.trim_ascii_end().is_empty() {

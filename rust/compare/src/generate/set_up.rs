@@ -1,5 +1,7 @@
 //! What a case begins with: an empty disk, some files, a full disk, a full directory.
 
+use model::disk::DATA_SECTORS;
+
 use crate::step::{Buffer, Call, Step};
 
 use super::Generator;
@@ -38,9 +40,11 @@ impl Generator {
                 for name in self.pool.clone().into_iter().skip(1).take(small) {
                     self.make(&name, Buffer::Fill(10, b'x'));
                 }
-                let bytes = self
+                let data = self.kind.data();
+                let missing = self
                     .random
-                    .pick(&[88_375, 88_374, 88_251, 88_250, 88_000, 87_000]);
+                    .pick(&[0, 1, data - 1, data, 3 * data, 11 * data]);
+                let bytes = usize::from(DATA_SECTORS) * data - missing;
                 let name = self.pool[0].clone();
                 self.make(&name, Buffer::Fill(bytes, b'F'));
             }
@@ -51,7 +55,7 @@ impl Generator {
             Beginning::FullDirectoryAndDisk => {
                 let slots = self.random.between(63, 64);
                 self.set_up_slots(slots);
-                self.make(b"A0", Buffer::Fill(90_000, b'G'));
+                self.make(b"A0", Buffer::Fill(self.kind.length(), b'G'));
             }
         }
     }
@@ -59,7 +63,9 @@ impl Generator {
     /// A few files of different lengths, some of them deleted.
     fn set_up_files(&mut self) {
         for name in self.pool.clone() {
-            let length = self.random.pick(&[0, 1, 60, 125, 126, 250, 400, 1500]);
+            let data = self.kind.data();
+            let lengths = [0, 1, 60, data, data + 1, 2 * data, 400, 1500];
+            let length = self.random.pick(&lengths);
             let bytes = self.random.bytes(length);
             self.make(&name, Buffer::Bytes(bytes));
         }

@@ -321,7 +321,9 @@ fn another_length_is_203() {
     folder.write("short", &[0; 92_159]);
     folder.write("empty", b"");
     for (image, length) in [("short", 92_159), ("empty", 0)] {
-        let message = format!("desk: {image}: 203 the image is not 92160 bytes long ({length})\n");
+        let message = format!(
+            "desk: {image}: 203 the image is not 92160, 92176 or 183952 bytes long ({length})\n"
+        );
         for arguments in [
             &["list", image][..],
             &["get", image, "A", "-"],
@@ -330,6 +332,7 @@ fn another_length_is_203() {
             &["recover", image, "0"],
             &["recover", image, "A"],
             &["sector", image, "1"],
+            &["convert", image, "new"],
         ] {
             assert_eq!(folder.refuse(arguments), message, "{arguments:?}");
         }
@@ -391,8 +394,8 @@ fn every_command_has_help_and_counts_its_arguments() {
     let overview = folder.run(&["--help"]);
     assert_eq!(folder.run(&["help"]), overview);
     let commands = [
-        "new", "list", "get", "put", "delete", "recover", "rename", "lock", "unlock", "sector",
-        "shell", "demo",
+        "new", "convert", "list", "get", "put", "delete", "recover", "rename", "lock", "unlock",
+        "sector", "shell", "demo",
     ];
     for command in commands {
         assert!(

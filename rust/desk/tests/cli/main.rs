@@ -3,5 +3,6 @@
 mod files;
 mod folder;
 mod images;
+mod kinds;
 mod pasted;
 mod shell;

@@ -7,18 +7,12 @@ use compare::{
     step::{Call, Step},
     world::{Reply, World},
 };
-use model::disk::IMAGE;
+use model::image::Kind;
 
 /// What the shell prints for a step, without messages and bytes.
 fn expected(step: &Step, reply: Option<Reply>) -> Vec<String> {
     let (Step::Call { call, .. }, Some(reply)) = (step, reply) else {
-        // A poke is a sector call; a channel is set without one.
-        let poke = matches!(step, Step::Poke { .. });
-        return if poke {
-            vec!["1; count 128".into()]
-        } else {
-            vec![]
-        };
+        return vec![];
     };
     let (low, rest) = (reply.answer % 256, reply.answer / 256);
     match call {
@@ -57,9 +51,9 @@ fn answers(printed: &str) -> Vec<String> {
 fn every_line_of_the_comparison_answers_as_the_model_does() {
     let folder = Folder::new();
     for seed in 0..60 {
-        let mut world = World::new();
+        let mut world = World::fresh(Kind::Raw);
         let mut generator = Generator::new(seed);
-        let mut script = format!("{}\n", Step::Fresh);
+        let mut script = format!("{}\n", Step::Fresh(Kind::Raw));
         let mut wanted = Vec::new();
         while let Some(step) = generator.next(&world) {
             script += &format!("{step}\n");
@@ -71,7 +65,7 @@ fn every_line_of_the_comparison_answers_as_the_model_does() {
         let (printed, status) = folder.shell(&[], &script);
         assert_eq!(status, Some(0), "{printed}");
         assert_eq!(answers(&printed), wanted, "seed {seed}");
-        assert!(folder.read(&image) == world.image[..IMAGE], "seed {seed}");
+        assert!(folder.read(&image) == world.image(), "seed {seed}");
     }
 }
 
@@ -85,6 +79,12 @@ fn lengths_that_are_lent_reach_the_call() {
         ("fresh\nlent 92160 40 cio 8 7 0 \"\" -\n", "134; count 0"),
         ("fresh\nlent 0 40 show 0 4\n", "no"),
         ("fresh\nlent 1 40 recover 0\n", "203; count 0"),
+        ("fresh\nlent 92176 40 recover 0\n", "205; count 0"),
+        (
+            "fresh double\nlent 92176 40 cio 8 7 0 \"\" -\n",
+            "205; count 0",
+        ),
+        ("fresh atr\nlent 92160 40 header\n", "203; count 0"),
     ] {
         let (printed, status) = Folder::new().shell(&[], case);
         assert_eq!(status, Some(0), "{printed}");

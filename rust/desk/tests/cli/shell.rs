@@ -1,7 +1,7 @@
 //! The shell, with its lines on standard input.
 
 use crate::folder::{two_files, Folder};
-use hilugsaban::Disk;
+use hilugsaban::{Disk, Kind};
 
 #[test]
 fn shell_makes_calls_on_a_disk_in_memory() {
@@ -98,8 +98,8 @@ table
         .map(|line| line.split(' ').next().unwrap())
         .collect();
     let expected = [
-        "1", "1", "1", "165", "1", "1", "134", "168", "1", "204", "138", "1", "no", "3", "255",
-        "3", "164", "170", "200", "a", "1", "133", "0", "1", "2", "3", "4", "5", "6", "7",
+        "1", "1", "1", "165", "1", "1", "134", "168", "1", "204", "138", "sector", "no", "3",
+        "255", "3", "164", "170", "200", "a", "1", "133", "0", "1", "2", "3", "4", "5", "6", "7",
     ];
     assert_eq!(numbers, expected, "{printed}");
     assert_eq!(lines[1], "1 success; count 126");
@@ -114,14 +114,14 @@ table
 #[test]
 fn shell_goes_on_behind_a_line_it_does_not_understand() {
     let folder = Folder::new();
-    let script = "open 0 append A\nfly\nget 0\ncio 0 7 0 \"\nchannel 8 0 0 0 0 0\npoke 1 128 0\nsave\nget 256 1\nquit now\nlent 1 1 status A\nlent 1\nstatus A\n";
+    let script = "open 0 append A\nfly\nget 0\ncio 0 7 0 \"\nchannel 8 0 0 0 0 0\npoke 1 128 0\npoke 0 0 0\npoke 721 0 0\nfresh raw\nsave\nget 256 1\nquit now\nlent 1 1 status A\nlent 1\nstatus A\n";
     let (printed, status) = folder.shell(&[], script);
     assert_eq!(
         printed
             .lines()
             .filter(|line| line.starts_with("? "))
             .count(),
-        11,
+        14,
         "{printed}"
     );
     assert!(
@@ -161,12 +161,15 @@ fn shell_writes_a_file_only_by_save() {
 fn shell_serves_an_image_of_another_length_with_203() {
     let folder = Folder::new();
     folder.write("short", &[0; 10]);
-    let (printed, status) = folder.shell(&["short"], "status A\npoke 1 0 0\nshow 0 4\nformat\n");
+    let (printed, status) = folder.shell(&["short"], "status A\nheader\nshow 0 4\nformat\n");
     assert_eq!(
         printed.lines().map(|line| &line[..2]).collect::<Vec<_>>(),
         ["20", "20", "no", "20"]
     );
     assert_eq!(status, Some(0));
+    let (printed, status) = folder.shell(&["short"], "poke 1 0 0\n");
+    assert!(printed.starts_with("? 203 "), "{printed}");
+    assert_eq!(status, Some(1));
 }
 
 #[test]
@@ -176,10 +179,7 @@ fn shell_makes_no_disk_of_a_file_that_is_none() {
     let (printed, status) = folder.shell(&["notes"], "format\nfresh\nsave\n");
     let lines: Vec<&str> = printed.lines().collect();
     assert!(lines[0].starts_with("203 "), "{printed}");
-    assert_eq!(
-        lines[1],
-        "? the file is not 92160 bytes long and stays as it is"
-    );
+    assert_eq!(lines[1], "? the file is no raw image and stays as it is");
     assert_eq!(status, Some(1));
     assert_eq!(folder.read("notes"), b"notes\n");
 }
@@ -255,4 +255,90 @@ record 1 0
 ";
     let folder = Folder::new();
     assert_eq!(folder.shell(&[], script), (expected.to_string(), Some(0)));
+}
+
+#[test]
+fn shell_serves_double_density_with_the_sizes_of_its_sectors() {
+    let script = r#"
+fresh double
+open 0 write A
+cio 0 11 0 "" 254*41
+close 0
+show 0 4
+show 0 5
+sector $31 1 $52 1 128*00
+sector $31 1 $52 4 128*00
+sector $31 1 $52 4 256*00
+poke 4 255 9
+show 0 4
+poke 1 128 0
+list
+"#;
+    let (printed, status) = Folder::new().shell(&[], script);
+    let lines: Vec<&str> = printed
+        .lines()
+        .filter(|line| !line.starts_with("  "))
+        .collect();
+    let expected = [
+        "a fresh disk with all channels closed",
+        "1 success; count 0",
+        "1 success; count 254",
+        "1 success; count 0",
+        "yes; offset 400, length 253",
+        "yes; offset 656, length 1",
+        "1 success; count 128",
+        "204 the buffer is not as long as the sector; count 0",
+        "1 success; count 256",
+        "sector 4 byte 255 is 9",
+        "yes; offset 400, length 9",
+        "? ATR file of double density: sector 1 has no byte 128",
+        "slot  name          sectors   bytes",
+        "705 free sectors",
+    ];
+    assert_eq!(lines, expected, "{printed}");
+    assert!(
+        printed.contains("   0  A                   2      10\n"),
+        "{printed}"
+    );
+    assert_eq!(status, Some(1));
+}
+
+#[test]
+fn shell_writes_a_header_and_refuses_a_wrong_one() {
+    let script = "fresh atr\nheader\npoke 0 4 0\nstatus A\nshow 0 4\npoke 0 15 7\nheader\nstatus A\nfresh\nheader\n";
+    let (printed, status) = Folder::new().shell(&[], script);
+    let expected = "\
+a fresh disk with all channels closed
+1 success; count 0
+sector 0 byte 4 is 0
+205 the image's header does not agree with its length; count 0
+no
+sector 0 byte 15 is 7
+1 success; count 0
+170 no file has this name; count 0
+a fresh disk with all channels closed
+203 the image is not 92160, 92176 or 183952 bytes long; count 0
+";
+    assert_eq!((printed, status), (expected.to_string(), Some(0)));
+}
+
+#[test]
+fn shell_leaves_the_kind_of_an_image_in_a_file() {
+    let folder = Folder::new();
+    folder.run(&["new", "--double", "disk"]);
+    let (printed, status) = folder.shell(
+        &["disk"],
+        "fresh\nfresh atr\nopen 0 write A\nfresh double\nsave\n",
+    );
+    let lines: Vec<&str> = printed.lines().collect();
+    assert_eq!(
+        lines[..2],
+        [
+            "? the file is no raw image and stays as it is",
+            "? the file is no ATR file of single density and stays as it is"
+        ]
+    );
+    assert!(lines[4].starts_with("saved "), "{printed}");
+    assert_eq!(status, Some(1));
+    assert_eq!(folder.read("disk"), Disk::fresh_as(Kind::AtrDouble).image());
 }

@@ -2,7 +2,7 @@ use Rattle.layout.proofs.Search.{first-end, first-stop, first-next}
 use Rattle.layout.specs.Status.{success, noSlot}
 use Rattle.layout.proofs.Tells.{tells-found}
 use Rattle.layout.specs.Channels.{vacant, newSlot}
-use Rattle.layout.specs.Image.{single, view}
+use Rattle.layout.specs.Image.{geometryOf, view}
 use Rattle.layout.specs.Basics.{firstFrom}
 use borrow.Author.Tests.{ne-eqb}
 use native.Mathlib.Omega.{arith}
@@ -13,10 +13,10 @@ use Rattle.channels.proofs.slots.new_slot.Statement.{statement}
 use Rattle.channels.proofs.slots.new_slot.Tie as tie
 
 abbrev Inv-loop : tie.InvT-loop
-Inv-loop image t s₀ s = (s ≤ 64) × (firstFrom (vacant (view single image) t) 64 0 ≡ firstFrom (vacant (view single image) t) (64 - s) s)
+Inv-loop m image t s₀ s = (s ≤ 64) × (firstFrom (vacant (view (geometryOf m) image) t) 64 0 ≡ firstFrom (vacant (view (geometryOf m) image) t) (64 - s) s)
 
 abbrev μ-loop : tie.MeasureT-loop
-μ-loop image t s₀ s = 64 - s
+μ-loop m image t s₀ s = 64 - s
 
 loop-holds : tie.Need-loop-holds Inv-loop μ-loop
 loop-holds c = (omega arith, refl)

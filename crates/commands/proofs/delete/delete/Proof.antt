@@ -3,7 +3,7 @@ use mathlib.Core.Path.{refl, sym, ap, _∙_, subst}
 use Prim.Native.Nat.{_<_}
 use borrow.Author.Tests.{not-false}
 use borrow.Author.Needs.{needs}
-use Rattle.layout.specs.Image.{single, view}
+use Rattle.layout.specs.Image.{geometryOf, view}
 use Rattle.layout.specs.Directory.{locked}
 use Rattle.layout.proofs.Check.{check-yes, check-no, named-is, named-refused, found-at, found-nothing}
 use Rattle.rules.specs.Commands.{deleteCall}
@@ -12,7 +12,7 @@ use Rattle.answers.proofs.Told.{Down, Further, told, told-disk}
 use Rattle.commands.proofs.delete.delete.Statement.{statement}
 use Rattle.commands.proofs.delete.delete.Tie as tie
 
-abbrev past-open : (c : tie.Else1) → let a = c .before .before .before .before .before .args in Down (deleteCall single (view single (a .image .now)) (a .t) (a .c) (a .text .now))
+abbrev past-open : (c : tie.Else1) → let a = c .before .before .before .before .before .args in Down (deleteCall (geometryOf (a .m)) (view (geometryOf (a .m)) (a .image .now)) (a .t) (a .c) (a .text .now))
 unfolding deleteCall
 past-open c = (_, check-no _ _ _ (sym (c .before .open-at .ensures) ∙ c .if1 .left))
 

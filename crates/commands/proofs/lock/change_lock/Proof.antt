@@ -2,7 +2,7 @@ use mathlib.Core.Bool.{not}
 use mathlib.Core.Path.{refl, sym, ap, _∙_, subst}
 use Prim.Native.Nat.{_<_}
 use borrow.Author.Needs.{needs}
-use Rattle.layout.specs.Image.{single, view}
+use Rattle.layout.specs.Image.{geometryOf, view}
 use Rattle.layout.proofs.Check.{check-yes, check-no, named-is, named-refused, found-at, found-nothing}
 use Rattle.rules.specs.Commands.{flagCall}
 use Rattle.channels.specs.Below.{Below}
@@ -11,7 +11,7 @@ use Rattle.commands.specs.Change.{changeTo}
 use Rattle.commands.proofs.lock.change_lock.Statement.{statement}
 use Rattle.commands.proofs.lock.change_lock.Tie as tie
 
-abbrev past-open : (c : tie.Else1) → let a = c .before .before .before .before .before .args in Down (flagCall single (view single (a .image .now)) (a .t) (a .c) (a .text .now) (changeTo (a .on)))
+abbrev past-open : (c : tie.Else1) → let a = c .before .before .before .before .before .args in Down (flagCall (geometryOf (a .m)) (view (geometryOf (a .m)) (a .image .now)) (a .t) (a .c) (a .text .now) (changeTo (a .on)))
 unfolding flagCall
 past-open c = (_, check-no _ _ _ (sym (c .before .open-at .ensures) ∙ c .if1 .left))
 

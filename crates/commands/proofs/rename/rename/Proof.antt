@@ -2,7 +2,7 @@ use mathlib.Core.Bool.{not}
 use mathlib.Core.Path.{refl, sym, ap, _∙_, subst}
 use Prim.Native.Nat.{_<_}
 use borrow.Author.Needs.{needs}
-use Rattle.layout.specs.Image.{single, view}
+use Rattle.layout.specs.Image.{geometryOf, view}
 use Rattle.layout.specs.Directory.{locked}
 use Rattle.layout.proofs.Check.{check-yes, check-no, named-is, named-refused, found-at, found-nothing}
 use Rattle.rules.specs.Commands.{renameCall}
@@ -11,7 +11,7 @@ use Rattle.answers.proofs.Told.{Down, Further, told, told-disk}
 use Rattle.commands.proofs.rename.rename.Statement.{statement}
 use Rattle.commands.proofs.rename.rename.Tie as tie
 
-abbrev past-open : (c : tie.Else1) → let a = c .before .before .before .before .before .args in Down (renameCall single (view single (a .image .now)) (a .t) (a .c) (a .text .now))
+abbrev past-open : (c : tie.Else1) → let a = c .before .before .before .before .before .args in Down (renameCall (geometryOf (a .m)) (view (geometryOf (a .m)) (a .image .now)) (a .t) (a .c) (a .text .now))
 unfolding renameCall
 past-open c = (_, check-no _ _ _ (sym (c .before .open-at .ensures) ∙ c .if1 .left))
 
@@ -21,7 +21,7 @@ past-old c = (_, past-open (c .before .before .before .before) .1 ∙ named-is _
 
 abbrev past-new : (c : tie.After-known-told2) → Further (past-old (c .before .before .before .before))
 unfolding renameCall
-past-new c = (_, past-old (c .before .before .before .before) .1 ∙ named-is _ _ _ (sym (c .before .before .before .new-name .ensures .0) ∙ c .before .m .given .1))
+past-new c = (_, past-old (c .before .before .before .before) .1 ∙ named-is _ _ _ (sym (c .before .before .before .new-name .ensures .0) ∙ c .before .w .given .1))
 
 abbrev past-good : (c : tie.Else2) → Further (past-new (c .before .before .before))
 unfolding renameCall
@@ -82,8 +82,8 @@ returns-2 c =
 new-name-requires : tie.Need-new-name-requires
 new-name-requires c κs = search needs
 
-enum-known-m : tie.Need-enum-known-m
-enum-known-m c = search needs
+enum-known-w : tie.Need-enum-known-w
+enum-known-w c = search needs
 
 enum-told-2 : tie.Need-enum-told-2
 enum-told-2 c = search needs
@@ -217,7 +217,7 @@ rename-spec =
     answer-requires-2
     returns-2
     new-name-requires
-    enum-known-m
+    enum-known-w
     enum-told-2
     name-status-requires-2
     answer-requires-3

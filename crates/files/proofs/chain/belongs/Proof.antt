@@ -2,7 +2,6 @@ use native.Mathlib.Omega.{arith}
 use mathlib.Core.Path.{sym, _∙_}
 use borrow.Author.Tests.{not-true, not-false}
 use Rattle.layout.specs.File.{belongs}
-use Rattle.layout.specs.Image.{single}
 use Rattle.layout.proofs.Chain.{fits-data}
 use Rattle.layout.proofs.Data.{data-facts}
 use borrow.Author.Needs.{needs}
@@ -17,7 +16,7 @@ unfolding belongs
 returns c = rw (← c .before .fits2 .ensures, not-true (c .before .fits2 .result) (c .if1 .taken))
 
 is-free-requires : tie.Need-is-free-requires
-is-free-requires c κs = let q = data-facts _ (fits-data single _ _ _ (sym (c .before .fits2 .ensures) ∙ not-false _ (c .if1 .left))) in omega arith
+is-free-requires c κs = let q = data-facts _ (fits-data _ _ _ _ (sym (c .before .fits2 .ensures) ∙ not-false _ (c .if1 .left))) in omega arith
 
 returns-2 : tie.Need-returns-2
 unfolding belongs

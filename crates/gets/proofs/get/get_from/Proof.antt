@@ -1,7 +1,7 @@
 use Rattle.gets.proofs.Getting.{gets-start, gets-on, gets-all, gets-ended, gets-broken, gets-found}
 use Rattle.gets.proofs.Seeking.{sought-left}
 use Rattle.gets.specs.Entered.{ByteLeft, Gets}
-use Rattle.layout.specs.Image.{single, view}
+use Rattle.layout.specs.Image.{geometryOf, view}
 use lib.ListN.{length}
 use native.Mathlib.Omega.{arith}
 use Prim.Native.Nat.{_-_}
@@ -11,13 +11,13 @@ use Rattle.gets.proofs.get.get_from.Statement.{statement}
 use Rattle.gets.proofs.get.get_from.Tie as tie
 
 abbrev Inv-loop : tie.InvT-loop
-Inv-loop image slot buffer₀ p₀ i₀ buffer p i = (length buffer ≡ length buffer₀) × Gets single (view single image) slot (length buffer₀) 0 p₀ buffer₀ i p buffer
+Inv-loop m image slot buffer₀ p₀ i₀ buffer p i = (length buffer ≡ length buffer₀) × Gets (geometryOf m) (view (geometryOf m) image) slot (length buffer₀) 0 p₀ buffer₀ i p buffer
 
 abbrev μ-loop : tie.MeasureT-loop
-μ-loop image slot buffer₀ p₀ i₀ buffer p i = length buffer₀ - i
+μ-loop m image slot buffer₀ p₀ i₀ buffer p i = length buffer₀ - i
 
 -- a byte is left where the search ended
-left : (c : tie.After-s Inv-loop μ-loop) → ByteLeft single (view single (c .before .before .before .before .before .before .before .args .image .now)) (c .s .given .0 .0)
+left : (c : tie.After-s Inv-loop μ-loop) → ByteLeft (geometryOf (c .before .before .before .before .before .before .before .args .m)) (view (geometryOf (c .before .before .before .before .before .before .before .args .m)) (c .before .before .before .before .before .before .before .args .image .now)) (c .s .given .0 .0)
 left c = sought-left (c .s .given .1) (c .before .before .seek-byte .ensures .1)
 
 loop-holds : tie.Need-loop-holds Inv-loop μ-loop
@@ -30,7 +30,7 @@ enum-known-s : tie.Need-enum-known-s Inv-loop μ-loop
 enum-known-s c = search needs
 
 get-here-requires : tie.Need-get-here-requires Inv-loop μ-loop
-get-here-requires c κs = (omega arith, omega arith, left (c .before .before))
+get-here-requires c κs = (omega arith, omega arith, omega arith, left (c .before .before))
 
 loop-less : tie.Need-loop-less Inv-loop μ-loop
 loop-less c =

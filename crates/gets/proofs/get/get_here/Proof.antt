@@ -1,9 +1,10 @@
-use Rattle.gets.proofs.Getting.{gets-on, gets-here}
-use native.Mathlib.Omega.{arith}
-use mathlib.Core.Path.{refl}
+use Rattle.layout.proofs.Image.{lawful}
 use borrow.Author.Needs.{needs}
 use Rattle.gets.proofs.get.get_here.Statement.{statement}
 use Rattle.gets.proofs.get.get_here.Tie as tie
+use Rattle.gets.proofs.Getting.{gets-on, gets-here}
+use native.Mathlib.Omega.{arith}
+use mathlib.Core.Path.{refl}
 
 used-requires : tie.Need-used-requires
 used-requires c κs = search needs
@@ -27,7 +28,7 @@ cast-get-run : tie.Need-cast-get-run
 cast-get-run c = search needs
 
 get-run-requires : tie.Need-get-run-requires
-get-run-requires c κs = search needs
+get-run-requires c κs = let b = c .before .before .before .before .before .pre .3 in let z = lawful _ (c .before .before .before .before .before .pre .0 .0) .whole (c .before .before .before .before .before .args .p .sector) (b .low) in omega arith
 
 cast-e : tie.Need-cast-e
 cast-e c = search needs
@@ -35,8 +36,11 @@ cast-e c = search needs
 add-e : tie.Need-add-e
 add-e c = search needs
 
-add-t23 : tie.Need-add-t23
-add-t23 c = search needs
+cast-if1 : tie.Need-cast-if1
+cast-if1 c = search needs
+
+add-t25 : tie.Need-add-t25
+add-t25 c = search needs
 
 same-length : tie.Need-same-length
 same-length c = search needs
@@ -46,7 +50,7 @@ returns c =
     let ran = c .before .before .before in
     let least = ran .before .before .least in
     let some = least .ensures .2 (omega arith) (omega arith) in
-    let left = ran .before .before .before .before .before .before .pre .2 in
+    let left = ran .before .before .before .before .before .before .pre .3 in
     (omega arith, gets-here _ _ _ left (least .result) (omega arith) (omega arith) _ (ran .get-run .ensures) _ refl)
 
 add-get-whole : tie.Need-add-get-whole
@@ -54,6 +58,9 @@ add-get-whole c = search needs
 
 get-whole-requires : tie.Need-get-whole-requires
 get-whole-requires c κs = search needs
+
+cast-t16 : tie.Need-cast-t16
+cast-t16 c = search needs
 
 same-length-2 : tie.Need-same-length-2
 same-length-2 c = search needs
@@ -63,10 +70,10 @@ returns-2 c =
     let ran = c .before .before .before .before .before .before .before in
     let least = ran .before .before .least in
     let some = least .ensures .2 (omega arith) (omega arith) in
-    let left = ran .before .before .before .before .before .before .pre .2 in
+    let left = ran .before .before .before .before .before .before .pre .3 in
     let whole = c .before .before .get-whole .ensures .1 in
     let more = whole .least in
-    (omega arith, gets-on (gets-here _ _ _ left (least .result) (omega arith) (omega arith) _ (ran .get-run .ensures) 125 (c .before .before .before .before .if1 .left)) (omega arith) whole)
+    (omega arith, gets-on (gets-here _ _ _ left (least .result) (omega arith) (omega arith) _ (ran .get-run .ensures) _ (c .before .before .before .before .if1 .left)) (omega arith) whole)
 
 pub get-here-spec : {M : Type 1} → statement M
 get-here-spec =
@@ -82,10 +89,12 @@ get-here-spec =
     get-run-requires
     cast-e
     add-e
-    add-t23
+    cast-if1
+    add-t25
     same-length
     returns
     add-get-whole
     get-whole-requires
+    cast-t16
     same-length-2
     returns-2)

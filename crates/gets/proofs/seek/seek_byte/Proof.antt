@@ -1,7 +1,7 @@
 use Rattle.gets.proofs.Seeking.{tells-seek, fits-entered, byte-left, seek-ready, seek-ended, seek-out, seek-not, seek-on}
 use Rattle.gets.specs.Entered.{Entered}
 use Rattle.rules.specs.Get.{seek}
-use Rattle.layout.specs.Image.{single, view}
+use Rattle.layout.specs.Image.{geometryOf, view}
 use borrow.Author.Tests.{not-true, not-false}
 use native.Mathlib.Omega.{arith}
 use mathlib.Core.Path.{_≡_, refl, sym, _∙_}
@@ -10,16 +10,16 @@ use Rattle.gets.proofs.seek.seek_byte.Statement.{statement}
 use Rattle.gets.proofs.seek.seek_byte.Tie as tie
 
 abbrev Inv-loop : tie.InvT-loop
-Inv-loop image slot k₀ o₀ l₀ k o l = Entered single (view single image) k × (seek single (view single image) slot k₀ o₀ l₀ ≡ seek single (view single image) slot k o l)
+Inv-loop m image slot k₀ o₀ l₀ k o l = Entered (geometryOf m) (view (geometryOf m) image) k × (seek (geometryOf m) (view (geometryOf m) image) slot k₀ o₀ l₀ ≡ seek (geometryOf m) (view (geometryOf m) image) slot k o l)
 
 abbrev μ-loop : tie.MeasureT-loop
-μ-loop image slot k₀ o₀ l₀ k o l = l
+μ-loop m image slot k₀ o₀ l₀ k o l = l
 
 loop-holds : tie.Need-loop-holds Inv-loop μ-loop
 loop-holds c = (c .before .pre .2, refl)
 
 has-byte-requires : tie.Need-has-byte-requires Inv-loop μ-loop
-has-byte-requires c κs = (omega arith, c .loop .inv .0 .most)
+has-byte-requires c κs = (omega arith, c .loop .inv .0 .most, c .loop .inv .0 .least)
 
 returns : tie.Need-returns Inv-loop μ-loop
 returns c =
@@ -27,7 +27,7 @@ returns c =
     let e = sym (c .before .has-byte .ensures) ∙ c .if1 .taken in (tells-seek (sym (loop .inv .1 ∙ seek-ready _ _ _ _ _ _ e)), byte-left _ _ _ _ _ (loop .inv .0) e)
 
 ends-requires : tie.Need-ends-requires Inv-loop μ-loop
-ends-requires c κs = (omega arith, c .before .before .loop .inv .0 .most)
+ends-requires c κs = (omega arith, c .before .before .loop .inv .0 .most, c .before .before .loop .inv .0 .least)
 
 returns-2 : tie.Need-returns-2 Inv-loop μ-loop
 returns-2 c = (
@@ -45,7 +45,7 @@ returns-3 c =
     )
 
 next-to-enter-requires : tie.Need-next-to-enter-requires Inv-loop μ-loop
-next-to-enter-requires c κs = (omega arith, omega arith, c .before .before .before .before .before .loop .inv .0 .most)
+next-to-enter-requires c κs = let e = c .before .before .before .before .before .loop .inv .0 in (omega arith, omega arith, e .most, e .least)
 
 fits-requires : tie.Need-fits-requires Inv-loop μ-loop
 fits-requires c κs = search needs

@@ -1,117 +1,54 @@
-use Rattle.gets.proofs.Getting.{gets-start, gets-full, room-left}
-use Rattle.gets.proofs.Seeking.{full-fits}
-use Rattle.gets.specs.Entered.{Fills}
-use Rattle.layout.proofs.Chain.{fits-data}
-use Rattle.layout.proofs.Data.{data-facts}
-use Rattle.layout.specs.Image.{single, view}
-use borrow.Author.Tests.{not-false}
-use lib.ListN.{length}
-use native.Mathlib.Omega.{arith}
-use Prim.Native.Nat.{_-_, _≤_, _<_}
-use mathlib.Core.Path.{_≡_, refl, sym, _∙_}
+use Rattle.image.proofs.Places.{density-of}
+use mathlib.Core.Path.{refl, _∙_}
 use borrow.Author.Needs.{needs}
 use Rattle.gets.proofs.whole.get_consecutive.Statement.{statement}
 use Rattle.gets.proofs.whole.get_consecutive.Tie as tie
 
-abbrev Inv-loop : tie.InvT-loop
-Inv-loop image slot sector left buffer₀ from k₀ l₀ i₀ buffer k l i = (length buffer ≡ length buffer₀) × Fills single (view single image) slot sector left from buffer₀ k l i buffer
+single-requires : tie.Need-single-requires
+single-requires c κs = search needs
 
-abbrev μ-loop : tie.MeasureT-loop
-μ-loop image slot sector left buffer₀ from k₀ l₀ i₀ buffer k l i = length buffer₀ - i
+get-counted-requires : tie.Need-get-counted-requires
+get-counted-requires c κs = rw (c .before .single .ensures ∙ density-of (c .before .before .before .before .before .before .args .m) (c .before .before .before .before .before .before .pre .0 .0) _ refl (c .before .before .if1 .taken)) (c .before .before .before .before .before .before .pre)
 
--- sectors are left to enter, and the buffer has room
-tested : (c : tie.In-loop Inv-loop μ-loop) → (0 < c .before .loop .l) × (125 ≤ length (c .before .loop .buffer) - c .before .loop .i)
-tested c = let loop = c .before .loop in room-left (loop .l) (length (loop .buffer) - loop .i) (c .loop-test .taken)
-
-loop-holds : tie.Need-loop-holds Inv-loop μ-loop
-loop-holds c = (refl, (omega arith, gets-start _ _ _ (omega arith) (c .before .before .pre .3)))
-
-sub-loop : tie.Need-sub-loop Inv-loop μ-loop
-sub-loop c = search needs
-
-add-n : tie.Need-add-n Inv-loop μ-loop
-add-n c = search needs
-
-next-requires : tie.Need-next-requires Inv-loop μ-loop
-next-requires c κs = search needs
-
-end-of-requires : tie.Need-end-of-requires Inv-loop μ-loop
-end-of-requires c κs = search needs
-
-same-length : tie.Need-same-length Inv-loop μ-loop
+same-length : tie.Need-same-length
 same-length c = search needs
 
-returns : tie.Need-returns Inv-loop μ-loop
-returns c = let inv = c .before .before .before .before .loop .inv in rw (c .end-of .ensures) (inv .1)
+returns : tie.Need-returns
+returns c = rw (← c .before .before .before .before .single .ensures ∙ density-of (c .before .before .before .before .before .before .before .before .before .args .m) (c .before .before .before .before .before .before .before .before .before .pre .0 .0) _ refl (c .before .before .before .before .before .if1 .taken)) (c .before .before .get-counted .ensures)
 
-is-full-requires : tie.Need-is-full-requires Inv-loop μ-loop
-is-full-requires c κs = search needs
+double-requires : tie.Need-double-requires
+double-requires c κs = search needs
 
-end-of-requires-2 : tie.Need-end-of-requires-2 Inv-loop μ-loop
-end-of-requires-2 c κs = search needs
+get-counted-requires-2 : tie.Need-get-counted-requires-2
+get-counted-requires-2 c κs = rw (c .before .double .ensures ∙ density-of (c .before .before .before .before .before .before .before .before .args .m) (c .before .before .before .before .before .before .before .before .pre .0 .0) _ refl (c .before .before .if2 .taken)) (c .before .before .before .before .before .before .before .before .pre)
 
-same-length-2 : tie.Need-same-length-2 Inv-loop μ-loop
+same-length-2 : tie.Need-same-length-2
 same-length-2 c = search needs
 
-returns-2 : tie.Need-returns-2 Inv-loop μ-loop
-returns-2 c = let inv = c .before .before .before .before .before .before .loop .inv in rw (c .end-of2 .ensures) (inv .1)
+returns-2 : tie.Need-returns-2
+returns-2 c = rw (← c .before .before .before .before .double .ensures ∙ density-of (c .before .before .before .before .before .before .before .before .before .before .before .args .m) (c .before .before .before .before .before .before .before .before .before .before .before .pre .0 .0) _ refl (c .before .before .before .before .before .if2 .taken)) (c .before .before .get-counted2 .ensures)
 
-get-run-requires : tie.Need-get-run-requires Inv-loop μ-loop
-get-run-requires c κs =
-    let f = data-facts _ (fits-data _ _ _ _ (full-fits _ _ _ _ (sym (c .before .before .is-full .ensures) ∙ not-false _ (c .before .if2 .left)))) in
-    let room = tested (c .before .before .before .before .before) in omega arith
+get-counted-requires-3 : tie.Need-get-counted-requires-3
+get-counted-requires-3 c κs = search needs
 
-sub-l : tie.Need-sub-l Inv-loop μ-loop
-sub-l c = tested (c .before .before .before .before .before .before .before .before) .0
-
-add-i : tie.Need-add-i Inv-loop μ-loop
-add-i c = search needs
-
-loop-less : tie.Need-loop-less Inv-loop μ-loop
-loop-less c =
-    let room = tested (c .before .before .before .before .before .before .before .before) in omega arith
-
-loop-again : tie.Need-loop-again Inv-loop μ-loop
-loop-again c =
-    let at = c .before .before .before .before in
-    let within = at .before .before .before .before in
-    let room = tested within in
-    let inv = within .before .loop .inv in (
-      omega arith,
-      (omega arith, gets-full (omega arith) (inv .1 .1) (inv .1 .0) (room .0) (omega arith) _ (sym (at .before .before .if1 .left) ∙ at .before .before .before .next .ensures) (sym (at .before .is-full .ensures) ∙ not-false _ (at .if2 .left)) _ (c .before .before .get-run .ensures)),
-    )
-
-end-of-requires-3 : tie.Need-end-of-requires-3 Inv-loop μ-loop
-end-of-requires-3 c κs = search needs
-
-same-length-3 : tie.Need-same-length-3 Inv-loop μ-loop
+same-length-3 : tie.Need-same-length-3
 same-length-3 c = search needs
 
-returns-3 : tie.Need-returns-3 Inv-loop μ-loop
-returns-3 c = let inv = c .before .before .loop .inv in rw (c .end-of3 .ensures) (inv .1)
+returns-3 : tie.Need-returns-3
+returns-3 c = search needs
 
 pub get-consecutive-spec : {M : Type 1} → statement M
 get-consecutive-spec =
     tie.close
     (tie.spec
-    Inv-loop
-    μ-loop
-    loop-holds
-    sub-loop
-    add-n
-    next-requires
-    end-of-requires
+    single-requires
+    get-counted-requires
     same-length
     returns
-    is-full-requires
-    end-of-requires-2
+    double-requires
+    get-counted-requires-2
     same-length-2
     returns-2
-    get-run-requires
-    sub-l
-    add-i
-    loop-less
-    loop-again
-    end-of-requires-3
+    get-counted-requires-3
     same-length-3
     returns-3)

@@ -1,7 +1,7 @@
 use mathlib.Core.Path.{refl, sym, ap, _∙_, subst}
 use Prim.Native.Nat.{_<_}
 use borrow.Author.Needs.{needs}
-use Rattle.layout.specs.Image.{single, view}
+use Rattle.layout.specs.Image.{geometryOf, view}
 use Rattle.layout.specs.Directory.{output}
 use Rattle.layout.proofs.Check.{check-yes, check-no, named-is, named-refused, found-at, found-nothing}
 use Rattle.rules.specs.Commands.{openRead}
@@ -10,7 +10,7 @@ use Rattle.answers.proofs.Told.{Down, Further, told, told-disk}
 use Rattle.opens.proofs.open.open_read.Statement.{statement}
 use Rattle.opens.proofs.open.open_read.Tie as tie
 
-abbrev past-name : (c : tie.After-known-told) → let a = c .before .before .before .before .before .before .args in Down (openRead single (view single (a .image .now)) (a .t) (a .c) (a .text .now))
+abbrev past-name : (c : tie.After-known-told) → let a = c .before .before .before .before .before .before .args in Down (openRead (geometryOf (a .m)) (view (geometryOf (a .m)) (a .image .now)) (a .t) (a .c) (a .text .now))
 unfolding openRead
 past-name c = (_, named-is _ _ _ (sym (c .before .before .before .read-name .ensures .0) ∙ c .before .n .given .1))
 

@@ -5,17 +5,19 @@ use native.Mathlib.Omega.{arith}
 use lib.Dec.{eqb}
 use borrow.Author.Tests.{eq-eqb, ne-eqb}
 use borrow.Author.Needs.{needs}
-use Rattle.layout.specs.Image.{single, view}
+use Rattle.layout.specs.Image.{geometryOf, view}
 use Rattle.layout.specs.Names.{nameByte}
 use Rattle.layout.proofs.Check.{check-yes, check-no, found-at, found-nothing}
 use Rattle.rules.specs.Commands.{openNew}
 use Rattle.channels.specs.Below.{Below}
-use Rattle.volume.proofs.Below.{lowest-top}
+use Rattle.layout.specs.Volume.{lowest}
+use Rattle.layout.proofs.Data.{data-facts}
+use Rattle.layout.proofs.Good.{good-facts, lowest-free}
 use Rattle.answers.proofs.Told.{Down, told, told-disk}
 use Rattle.opens.proofs.write.open_new.Statement.{statement}
 use Rattle.opens.proofs.write.open_new.Tie as tie
 
-abbrev past-slot : (c : tie.After-known-told) → let a = c .before .before .before .before .before .before .args in Down (openNew single (view single (a .image .now)) (a .t) (a .c) [] (nameByte (a .name) (a .extension)))
+abbrev past-slot : (c : tie.After-known-told) → let a = c .before .before .before .before .before .before .args in Down (openNew (geometryOf (a .m)) (view (geometryOf (a .m)) (a .image .now)) (a .t) (a .c) [] (nameByte (a .name) (a .extension)))
 unfolding openNew
 past-slot c = (_, found-at _ _ _ (sym (c .before .before .before .new-slot .ensures .0 .0) ∙ c .before .f .given .1))
 
@@ -68,7 +70,10 @@ give-requires c κs =
     let p1 = c .before .before .before .before .before .before .before .before .before in
     let p2 = p1 .before .before .before .before in
     let p3 = p2 .before .before .before .before .before in
-    let l = lowest-top (view single (p3 .args .image .now) 360) in let k = p1 .before .lowest-free .ensures in let b = below p2 in let z = p1 .if1 .left in omega arith
+    let r = view (geometryOf (p3 .args .m)) (p3 .args .image .now) 360 in
+    let k = p1 .before .lowest-free .ensures in
+    let d = data-facts (lowest r) (lowest-free r (good-facts r (p3 .pre .2)) (λ e. p1 .if1 .left (k ∙ e)) .1) in
+    let b = below p2 in omega arith
 
 cast-with-state : tie.Need-cast-with-state
 cast-with-state c = search needs

@@ -2,7 +2,7 @@ use mathlib.Core.Bool.{not}
 use mathlib.Core.Path.{refl, sym, ap, _∙_, subst}
 use borrow.Author.Tests.{not-false}
 use borrow.Author.Needs.{needs}
-use Rattle.layout.specs.Image.{single, view}
+use Rattle.layout.specs.Image.{geometryOf, view}
 use Rattle.layout.proofs.Check.{check-yes, check-no, named-is, named-refused, found-at, found-nothing}
 use Rattle.rules.specs.Commands.{openFound, openNew, openWrite}
 use Rattle.channels.specs.Below.{Below}
@@ -10,7 +10,7 @@ use Rattle.answers.proofs.Told.{Down, Further, told, told-disk}
 use Rattle.opens.proofs.write.open_write.Statement.{statement}
 use Rattle.opens.proofs.write.open_write.Tie as tie
 
-abbrev past-name : (c : tie.After-known-told) → let a = c .before .before .before .before .before .before .args in Down (openWrite single (view single (a .image .now)) (a .t) (a .c) (a .text .now))
+abbrev past-name : (c : tie.After-known-told) → let a = c .before .before .before .before .before .before .args in Down (openWrite (geometryOf (a .m)) (view (geometryOf (a .m)) (a .image .now)) (a .t) (a .c) (a .text .now))
 unfolding openWrite
 past-name c = (_, named-is _ _ _ (sym (c .before .before .before .read-name .ensures .0) ∙ c .before .n .given .1))
 
@@ -60,7 +60,7 @@ enum-told-2 : tie.Need-enum-told-2
 enum-told-2 c = search needs
 
 open-new-requires : tie.Need-open-new-requires
-open-new-requires c κs = search needs
+open-new-requires c κs = (c .before .before .before .before .before .before .before .before .before .before .before .before .before .before .pre .0, c .before .before .before .before .before .before .before .before .before .before .before .before .before .before .pre .1, sym (c .before .before .before .before .before .before .table-good .ensures) ∙ not-false _ (c .before .before .before .before .before .if1 .left))
 
 same-length-2 : tie.Need-same-length-2
 same-length-2 c = search needs

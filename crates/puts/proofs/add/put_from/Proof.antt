@@ -1,13 +1,14 @@
 use Rattle.puts.proofs.Searching.{searched-add}
-use Rattle.puts.proofs.Adding.{Puts, puts-start, puts-all, puts-full, puts-run, room-zero}
+use Rattle.puts.proofs.Adding.{puts-start, puts-on, puts-all, puts-full, puts-run, room-zero}
 use Rattle.puts.specs.Searched.{Searched}
+use Rattle.puts.specs.Come.{Puts}
 use Rattle.layout.proofs.Data.{Data, data-facts}
 use Rattle.layout.specs.Volume.{dataSector}
-use Rattle.layout.specs.Image.{single, view}
+use Rattle.layout.specs.Image.{Whole, geometryOf, view}
 use lib.ListN.{length, length-take, length-drop}
 use native.Mathlib.Omega.{arith}
 use native.Mathlib.Nat.{add-sub-cancel-left}
-use Prim.Native.Nat.{_-_}
+use Prim.Native.Nat.{_-_, _<_}
 use mathlib.Core.Path.{_≡_, sym, _∙_}
 use mathlib.Core.Bool.{true}
 use borrow.Author.Needs.{needs}
@@ -15,24 +16,20 @@ use Rattle.puts.proofs.add.put_from.Statement.{statement}
 use Rattle.puts.proofs.add.put_from.Tie as tie
 
 abbrev Inv-loop : tie.InvT-loop
-Inv-loop image₀ slot last buffer p₀ i₀ from₀ image p i from = (length image ≡ 92160) × (dataSector p ≡ true) × Searched (view single image 360) from × Puts single slot buffer (view single image₀) p₀ (view single image) p i
+Inv-loop m image₀ slot last buffer most p₀ i₀ from₀ image p i from = Whole m image × (dataSector p ≡ true) × Searched (view (geometryOf m) image 360) from × Puts (geometryOf m) slot buffer (view (geometryOf m) image₀) p₀ 0 (view (geometryOf m) image) p i
 
 abbrev μ-loop : tie.MeasureT-loop
-μ-loop image₀ slot last buffer p₀ i₀ from₀ image p i from = length buffer - i
+μ-loop m image₀ slot last buffer most p₀ i₀ from₀ image p i from = length buffer - i
 
 -- the sector with room is a data sector
 spot : (c : tie.Else1 Inv-loop μ-loop) → Data (c .before .before .before .room .result .sector)
 spot c = data-facts _ (c .before .before .before .room .ensures .2 .kind (c .if1 .left))
 
 loop-holds : tie.Need-loop-holds Inv-loop μ-loop
-loop-holds c =
-    let pre = c .before .before .pre in
-    (pre .0, pre .2, record { most = omega arith; none = λ j h. absurd (omega arith); table = pre .3 }, puts-start)
+loop-holds c = (c .before .before .pre .0, c .before .before .pre .2, record { most = omega arith; none = λ j h. absurd (omega arith); table = c .before .before .pre .3 }, puts-start (omega arith))
 
 room-requires : tie.Need-room-requires Inv-loop μ-loop
-room-requires c κs =
-    let loop = c .before .before .loop in
-    (omega arith, omega arith, loop .inv .1, loop .inv .2)
+room-requires c κs = (omega arith, omega arith, c .before .before .loop .inv .1, c .before .before .loop .inv .2)
 
 added-requires : tie.Need-added-requires Inv-loop μ-loop
 added-requires c κs = search needs
@@ -42,12 +39,10 @@ same-length c = search needs
 
 returns : tie.Need-returns Inv-loop μ-loop
 returns c =
-    let at = c .before .before .before .before in
-    let loop = at .before .before .before .loop in
-    let z = sym (at .room .ensures .0) ∙ c .before .if1 .taken in
-    let e = puts-full (loop .inv .3) (at .before .before .loop-test .taken) z in
-    let q = data-facts _ (loop .inv .1) in
-    (c .added .ensures ∙ sym (e .0), at .room .ensures .1 ∙ room-zero _ _ _ _ (omega arith) z ∙ sym (e .1))
+    let z = sym (c .before .before .before .before .room .ensures .0) ∙ c .before .if1 .taken in
+    let e = puts-full (c .before .before .before .before .before .before .before .loop .inv .3) (c .before .before .before .before .before .before .loop-test .taken) z in
+    let q = data-facts _ (c .before .before .before .before .before .before .before .loop .inv .1) in
+    (c .added .ensures ∙ sym (e .0), c .before .before .before .before .room .ensures .1 ∙ room-zero _ _ _ _ (omega arith) z ∙ sym (e .1))
 
 used-requires : tie.Need-used-requires Inv-loop μ-loop
 used-requires c κs = let w = spot (c .before) in omega arith
@@ -78,29 +73,32 @@ part-add-run-end c = omega arith
 
 add-run-requires : tie.Need-add-run-requires Inv-loop μ-loop
 add-run-requires c κs =
-    let at = c .before .before .before .before .before in
-    let w = spot at in let r = at .before .before .before .room .ensures .2 .room (at .if1 .left) in (omega arith, omega arith, omega arith, simp (length-take, length-drop) (omega arith))
+    let w = spot (c .before .before .before .before .before) in
+    let r = c .before .before .before .before .before .before .before .before .room .ensures .2 .room (c .before .before .before .before .before .if1 .left) in (omega arith, omega arith, omega arith, simp (length-take, length-drop) (omega arith))
+
+put-whole-requires : tie.Need-put-whole-requires Inv-loop μ-loop
+put-whole-requires c κs =
+    let k = c .before .before .before .before .before .before .before .before .before .before .before .before .room .ensures .2 .kind (c .before .before .before .before .before .before .before .before .before .if1 .left) in
+    (omega arith, omega arith, k, omega arith, rw (c .before .before .before .add-run .ensures) (searched-add _ _ _ (c .before .before .before .before .before .before .before .before .before .before .before .before .room .ensures .3) _ _ k))
 
 loop-less : tie.Need-loop-less Inv-loop μ-loop
 loop-less c =
-    let at = c .before .before .before .before .before in
-    let r = at .before .before .before .before .before .before .room .ensures .2 .room (at .before .before .before .if1 .left) in omega (arith, at .least .ensures .2 (omega arith) (omega arith))
+    let r = c .before .before .before .before .before .before .before .before .before .before .before .before .before .before .before .room .ensures .2 .room (c .before .before .before .before .before .before .before .before .before .before .before .before .if1 .left) in
+    let n = c .before .before .before .before .before .before .before .before .before .least .ensures .2 (omega arith) (omega arith) in
+    let least = c .before .before .put-whole .ensures .2 .least in
+    let most = c .before .before .put-whole .ensures .2 .most in omega arith
 
 loop-again : tie.Need-loop-again Inv-loop μ-loop
 loop-again c =
-    let at = c .before .before .before .before .before in
-    let room = at .before .before .before .before .before .before .room in
-    let if1 = at .before .before .before .if1 in
-    let add-run = c .before .before .add-run in
-    let r = room .ensures .2 .room (if1 .left) in
-    let k = room .ensures .2 .kind (if1 .left) in
-    let n = at .least .ensures .2 (omega arith) (omega arith) in
-    let inv = at .before .before .before .before .before .before .before .before .before .loop .inv in (
-      omega arith,
-      k,
-      rw (add-run .ensures) (searched-add single _ _ (room .ensures .3) _ _ k),
-      puts-run (inv .3) _ _ (room .ensures .0) (room .ensures .1) (if1 .left) r (at .least .result) n (omega arith) (omega arith) _ (add-run .ensures ∙ rw add-sub-cancel-left),
-    )
+    let r = c .before .before .before .before .before .before .before .before .before .before .before .before .before .before .before .room .ensures .2 .room (c .before .before .before .before .before .before .before .before .before .before .before .before .if1 .left) in
+    let n = c .before .before .before .before .before .before .before .before .before .least .ensures .2 (omega arith) (omega arith) in
+    let whole = c .before .before .put-whole .ensures in
+    let run = puts-run (c .before .before .before .before .before .before .before .before .before .before .before .before .before .before .before .before .before .before .loop .inv .3) _ _ (c .before .before .before .before .before .before .before .before .before .before .before .before .before .before .before .room .ensures .0) (c .before .before .before .before .before .before .before .before .before .before .before .before .before .before .before .room .ensures .1) (c .before .before .before .before .before .before .before .before .before .before .before .before .if1 .left) r (c .before .before .before .before .before .before .before .before .before .least .result) n (omega arith) (omega arith) _ (c .before .before .before .before .before .before .add-run .ensures ∙ rw add-sub-cancel-left) in
+    let before = c .before .before .before .before .before .before .before .before .before .before .before .before .before .before .before .before .before .before .loop .inv .0 in
+    let k = c .before .before .before .before .before .before .before .before .before .before .before .before .before .before .image .given in
+    let k2 = c .before .before .before .before .before .image2 .given in
+    let k3 = c .before .image3 .given in
+    (omega arith, whole .0, whole .1, puts-on run (whole .2))
 
 added-requires-2 : tie.Need-added-requires-2 Inv-loop μ-loop
 added-requires-2 c κs = search needs
@@ -132,6 +130,7 @@ put-from-spec =
     part-add-run-start
     part-add-run-end
     add-run-requires
+    put-whole-requires
     loop-less
     loop-again
     added-requires-2

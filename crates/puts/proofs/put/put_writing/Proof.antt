@@ -1,3 +1,6 @@
+use Rattle.rules.specs.declared.Added.{Added}
+use Rattle.rules.specs.Get.{advanced}
+use Rattle.layout.specs.declared.State.the-variants.{Writing}
 use Rattle.puts.proofs.Slots.{writable-slot, writable-last}
 use Rattle.rules.specs.Put.{PutOutcome, puts, putOn}
 use Rattle.layout.proofs.Check.{check-yes, check-no}
@@ -48,8 +51,8 @@ returns-3 c =
     ∙ check-yes {A = PutOutcome} _ _ _ (ap not (sym (c .before .before .writable .ensures)) ∙ c .before .if3 .taken) in
     (c .writing3 .ensures ∙ ap (λ o. o .answer) (sym e), ap (λ o. o .disk) (sym e))
 
-put-from-requires : tie.Need-put-from-requires
-put-from-requires c κs =
+put-some-requires : tie.Need-put-some-requires
+put-some-requires c κs =
     let at = c .before .before .before .before in
     let w = sym (c .before .before .writable .ensures) ∙ not-false _ (c .before .if3 .left) in
     (omega arith, writable-slot _ _ _ _ w, writable-last _ _ _ _ w, sym (at .before .table-good .ensures) ∙ not-false _ (at .if2 .left))
@@ -66,7 +69,7 @@ returns-4 c =
     let at = c .before .before .before .before .before in
     let e = check-no {A = PutOutcome} _ _ _ (ne-eqb _ 0 (at .before .before .before .before .before .before .if1 .left)) ∙ check-no {A = PutOutcome} _ _ _ (ap not (sym (at .before .before .before .before .table-good .ensures)) ∙ at .before .before .before .if2 .left)
     ∙ check-no {A = PutOutcome} _ _ _ (ap not (sym (at .before .writable .ensures)) ∙ at .if3 .left) in
-    (sym (ap (λ o. o .answer) e ∙ (cc)), c .before .before .before .put-from .ensures .1 ∙ ap (λ o. o .disk) (sym e))
+    (c .writing4 .ensures ∙ ap (λ (x : Added). advanced (x .status) (x .count) (Writing (at .before .before .before .before .before .before .before .before .before .args .slot) (x .last))) (c .before .before .before .put-some .ensures .0) ∙ ap (λ o. o .answer) (sym e), c .before .before .before .put-some .ensures .1 ∙ ap (λ o. o .disk) (sym e))
 
 pub put-writing-spec : {M : Type 1} → statement M
 put-writing-spec =
@@ -82,7 +85,7 @@ put-writing-spec =
     writing-requires-3
     same-length-2
     returns-3
-    put-from-requires
+    put-some-requires
     writing-requires-4
     same-length-3
     returns-4)

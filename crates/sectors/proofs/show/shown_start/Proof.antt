@@ -1,28 +1,48 @@
+use Rattle.rules.proofs.Showing.{enters-true, start-yes, start-no}
+use Rattle.rules.specs.Showing.{shownStart}
+use borrow.Author.Tests.{not-true, not-false}
 use native.Mathlib.Omega.{arith}
 use mathlib.Core.Path.{sym, _∙_}
-use borrow.Author.Tests.{not-true, not-false}
-use Rattle.sectors.proofs.Shown.{shows-true}
-use Rattle.rules.specs.Showing.{shownStart}
+use Rattle.layout.proofs.Check.{served-as, served-not}
+use Rattle.layout.proofs.Header.{served-whole}
 use borrow.Author.Needs.{needs}
 use Rattle.sectors.proofs.show.shown_start.Statement.{statement}
 use Rattle.sectors.proofs.show.shown_start.Tie as tie
 
-shows-requires : tie.Need-shows-requires
-shows-requires c κs = search needs
+served-as-requires : tie.Need-served-as-requires
+served-as-requires c κs = search needs
+
+enum-known-v : tie.Need-enum-known-v
+enum-known-v c = search needs
+
+enum-told : tie.Need-enum-told
+enum-told c = search needs
 
 returns : tie.Need-returns
 unfolding shownStart
-returns c = rw (← c .before .shows .ensures, not-true (c .before .shows .result) (c .if1 .taken))
+returns c = sym (served-not _ _ _ (sym (c .before .before .served-as .ensures .0) ∙ c .enum-told .given .1))
 
-sub-result : tie.Need-sub-result
-sub-result c = let q = shows-true _ _ _ (sym (c .before .shows .ensures) ∙ not-false _ (c .if1 .left)) in omega arith
-
-mul-result : tie.Need-mul-result
-mul-result c = search needs
+enters-requires : tie.Need-enters-requires
+enters-requires c κs = served-whole _ _ (sym (c .before .before .before .served-as .ensures .0) ∙ c .before .v .given .1)
 
 returns-2 : tie.Need-returns-2
-unfolding shownStart
-returns-2 c = rw (← c .before .shows .ensures, not-false (c .before .shows .result) (c .if1 .left))
+returns-2 c = sym (start-no _ _ _ _ (sym (c .before .before .before .before .before .served-as .ensures .0) ∙ c .before .before .before .v .given .1) (sym (c .before .enters .ensures) ∙ not-true _ (c .if1 .taken)))
+
+start-requires : tie.Need-start-requires
+start-requires c κs = let w = served-whole _ _ (sym (c .before .before .before .before .before .served-as .ensures .0) ∙ c .before .before .before .v .given .1) in let t = enters-true _ _ _ _ (sym (c .before .enters .ensures) ∙ not-false _ (c .if1 .left)) in omega arith
+
+returns-3 : tie.Need-returns-3
+returns-3 c = c .start .ensures .0 ∙ sym (start-yes _ _ _ _ (sym (c .before .before .before .before .before .before .served-as .ensures .0) ∙ c .before .before .before .before .v .given .1) (sym (c .before .before .enters .ensures) ∙ not-false _ (c .before .if1 .left)))
 
 pub shown-start-spec : {M : Type 1} → statement M
-shown-start-spec = tie.close (tie.spec shows-requires returns sub-result mul-result returns-2)
+shown-start-spec =
+    tie.close
+    (tie.spec
+    served-as-requires
+    enum-known-v
+    enum-told
+    returns
+    enters-requires
+    returns-2
+    start-requires
+    returns-3)

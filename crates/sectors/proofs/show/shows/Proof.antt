@@ -1,28 +1,34 @@
-use lib.ListN.{length}
-use borrow.Author.Tests.{lt-ltb, le-ltb, eq-eqb, ne-eqb}
 use Rattle.rules.specs.Showing.{shows}
+use borrow.Author.Tests.{not-true, not-false}
+use native.Mathlib.Omega.{arith}
+use mathlib.Core.Path.{sym, _∙_}
+use Rattle.layout.proofs.Check.{served-as, served-not}
+use Rattle.layout.proofs.Header.{served-whole}
 use borrow.Author.Needs.{needs}
 use Rattle.sectors.proofs.show.shows.Statement.{statement}
 use Rattle.sectors.proofs.show.shows.Tie as tie
 
+served-as-requires : tie.Need-served-as-requires
+served-as-requires c κs = search needs
+
+enum-known-v : tie.Need-enum-known-v
+enum-known-v c = search needs
+
+enum-told : tie.Need-enum-told
+enum-told c = search needs
+
 returns : tie.Need-returns
 unfolding shows
-returns c = rw (ne-eqb (length (c .before .before .args .image .now)) 92160 (c .if1 .taken))
+returns c = sym (served-not _ _ _ (sym (c .before .before .served-as .ensures .0) ∙ c .enum-told .given .1))
+
+enters-requires : tie.Need-enters-requires
+enters-requires c κs = served-whole _ _ (sym (c .before .before .before .served-as .ensures .0) ∙ c .before .v .given .1)
 
 returns-2 : tie.Need-returns-2
 unfolding shows
-returns-2 c =
-    let a = c .before .before .before .args in
-    rw (eq-eqb (length (a .image .now)) 92160 (c .before .if1 .left), le-ltb (a .slot) 64 (c .if2 .taken))
-
-fits-requires : tie.Need-fits-requires
-fits-requires c κs = search needs
-
-returns-3 : tie.Need-returns-3
-unfolding shows
-returns-3 c =
-    let a = c .before .before .before .before .args in
-    rw (eq-eqb (length (a .image .now)) 92160 (c .before .before .if1 .left), lt-ltb (a .slot) 64 (c .before .if2 .left)) (c .fits2 .ensures)
+returns-2 c = c .enters .ensures ∙ sym (served-as _ _ _ (sym (c .before .before .before .before .served-as .ensures .0) ∙ c .before .before .v .given .1))
 
 pub shows-spec : {M : Type 1} → statement M
-shows-spec = tie.close (tie.spec returns returns-2 fits-requires returns-3)
+shows-spec =
+    tie.close
+    (tie.spec served-as-requires enum-known-v enum-told returns enters-requires returns-2)

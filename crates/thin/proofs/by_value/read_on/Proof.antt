@@ -1,29 +1,46 @@
-use mathlib.Core.Path.{sym, ap, _∙_}
-use mathlib.Core.Bool.{not}
-use borrow.Author.Tests.{eq-eqb, ne-eqb}
-use borrow.Author.Needs.{needs}
-use Rattle.layout.proofs.Check.{check-yes, check-no}
 use Rattle.rules.specs.Thin.{thinGet}
 use Rattle.rules.specs.Get.{GetOutcome}
+use mathlib.Core.Path.{sym, ap, _∙_}
 use Rattle.thin.specs.Moves.{moved}
+use Rattle.layout.proofs.Check.{served-as, served-not}
+use Rattle.layout.proofs.Header.{served-whole}
+use borrow.Author.Needs.{needs}
 use Rattle.thin.proofs.by_value.read_on.Statement.{statement}
 use Rattle.thin.proofs.by_value.read_on.Tie as tie
 
-returns : tie.Need-returns
-unfolding thinGet
-returns c = let e = check-yes {A = GetOutcome} _ _ _ (ap not (ne-eqb _ _ (c .if1 .taken))) in (ap (λ o. moved (o .answer)) (sym e), ap (λ o. o .buffer) (sym e))
+served-as-requires : tie.Need-served-as-requires
+served-as-requires c κs = search needs
 
-get-on-requires : tie.Need-get-on-requires
-get-on-requires c κs = search needs
+enum-known-v : tie.Need-enum-known-v
+enum-known-v c = search needs
+
+read-served-requires : tie.Need-read-served-requires
+read-served-requires c κs = served-whole _ _ (sym (c .before .before .before .before .served-as .ensures .0) ∙ c .before .before .v .given .1)
+
+enum-known-v-2 : tie.Need-enum-known-v-2
+enum-known-v-2 c = search needs
 
 same-length : tie.Need-same-length
 same-length c = search needs
 
+returns : tie.Need-returns
+unfolding thinGet
+returns c = let e = served-as {A = GetOutcome} _ _ _ (sym (c .before .before .before .before .before .before .before .served-as .ensures .0) ∙ c .before .before .before .before .before .v .given .1) in
+    (c .before .before .read-served .ensures .0 ∙ ap (λ o. moved (o .answer)) (sym e), c .before .before .read-served .ensures .1 ∙ ap (λ o. o .buffer) (sym e))
+
 returns-2 : tie.Need-returns-2
 unfolding thinGet
-returns-2 c =
-    let get-on = c .before .before .get-on in
-    let e = check-no {A = GetOutcome} _ _ _ (ap not (eq-eqb _ _ (c .before .before .before .before .if1 .left))) in (ap moved (get-on .ensures .0) ∙ ap (λ o. moved (o .answer)) (sym e), get-on .ensures .1 ∙ ap (λ o. o .buffer) (sym e))
+returns-2 c = let e = served-not {A = GetOutcome} _ _ _ (sym (c .before .before .before .served-as .ensures .0) ∙ c .before .v2 .given .1) in
+    (ap (λ o. moved (o .answer)) (sym e), ap (λ o. o .buffer) (sym e))
 
 pub read-on-spec : {M : Type 1} → statement M
-read-on-spec = tie.close (tie.spec returns get-on-requires same-length returns-2)
+read-on-spec =
+    tie.close
+    (tie.spec
+    served-as-requires
+    enum-known-v
+    read-served-requires
+    enum-known-v-2
+    same-length
+    returns
+    returns-2)

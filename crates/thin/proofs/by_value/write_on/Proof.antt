@@ -1,31 +1,51 @@
-use mathlib.Core.Path.{refl, sym, ap, _∙_}
-use mathlib.Core.Bool.{not}
-use borrow.Author.Tests.{eq-eqb, ne-eqb}
-use borrow.Author.Needs.{needs}
-use Rattle.layout.proofs.Image.{single-lawful, image-of}
-use Rattle.layout.proofs.Check.{check-yes, check-no}
-use Rattle.layout.specs.Image.{single}
-use Rattle.rules.specs.Thin.{thinPut}
-use Rattle.rules.specs.Put.{PutOutcome}
+use Rattle.layout.proofs.Image.{lawful, image-of}
+use Rattle.rules.specs.Thin.{ImagePutOutcome, thinPut}
+use mathlib.Core.Path.{sym, ap, _∙_}
 use Rattle.thin.specs.Moves.{moved}
+use Rattle.layout.proofs.Check.{served-as, served-not}
+use Rattle.layout.proofs.Header.{served-whole}
+use borrow.Author.Needs.{needs}
 use Rattle.thin.proofs.by_value.write_on.Statement.{statement}
 use Rattle.thin.proofs.by_value.write_on.Tie as tie
 
-returns : tie.Need-returns
-unfolding thinPut
-returns c = let e = check-yes {A = PutOutcome} _ _ _ (ap not (ne-eqb _ _ (c .if1 .taken))) in (ap (λ o. moved (o .answer)) (sym e), image-of single single-lawful _ _ _ refl (ap (λ o. o .disk) (sym e)))
+served-as-requires : tie.Need-served-as-requires
+served-as-requires c κs = search needs
 
-put-on-requires : tie.Need-put-on-requires
-put-on-requires c κs = search needs
+enum-known-v : tie.Need-enum-known-v
+enum-known-v c = search needs
+
+write-served-requires : tie.Need-write-served-requires
+write-served-requires c κs = served-whole _ _ (sym (c .before .before .before .before .served-as .ensures .0) ∙ c .before .before .v .given .1)
+
+enum-known-v-2 : tie.Need-enum-known-v-2
+enum-known-v-2 c = search needs
 
 same-length : tie.Need-same-length
 same-length c = search needs
 
+returns : tie.Need-returns
+unfolding thinPut
+returns c = let q = sym (c .before .before .before .before .before .before .before .served-as .ensures .0) ∙ c .before .before .before .before .before .v .given .1 in
+    let e = served-as {A = ImagePutOutcome} _ _ _ q in
+    (c .before .before .write-served .ensures .0 ∙ ap (λ o. moved (o .answer)) (sym e), image-of _ (lawful _ (served-whole _ _ q .0)) _ _ _ (search needs) (c .before .before .write-served .ensures .1) ∙ ap (λ o. o .image) (sym e))
+
+same-length-2 : tie.Need-same-length-2
+same-length-2 c = search needs
+
 returns-2 : tie.Need-returns-2
 unfolding thinPut
-returns-2 c =
-    let put-on = c .before .before .put-on in
-    let e = check-no {A = PutOutcome} _ _ _ (ap not (eq-eqb _ _ (c .before .before .before .before .if1 .left))) in (ap moved (put-on .ensures .0) ∙ ap (λ o. moved (o .answer)) (sym e), image-of single single-lawful _ _ _ (search needs) (put-on .ensures .1 ∙ ap (λ o. o .disk) (sym e)))
+returns-2 c = let e = served-not {A = ImagePutOutcome} _ _ _ (sym (c .before .before .before .served-as .ensures .0) ∙ c .before .v2 .given .1) in
+    (ap (λ o. moved (o .answer)) (sym e), ap (λ o. o .image) (sym e))
 
 pub write-on-spec : {M : Type 1} → statement M
-write-on-spec = tie.close (tie.spec returns put-on-requires same-length returns-2)
+write-on-spec =
+    tie.close
+    (tie.spec
+    served-as-requires
+    enum-known-v
+    write-served-requires
+    enum-known-v-2
+    same-length
+    returns
+    same-length-2
+    returns-2)

@@ -1,0 +1,36 @@
+// The header of an ATR file, written.
+use answers::reply;
+use layout::density::Medium;
+use layout::status;
+use rules::Reply;
+use runs::copy::copy;
+ghost use mathlib.Core.Path.{_≡_};
+ghost use Prim.Native.Nat.{_≤_};
+ghost use lib.ListN.{length};
+ghost use lib.Seq.{sets};
+ghost use Rattle.rules.specs.WriteHeader.{headerCall};
+
+// A header's sixteen bytes stored in front.
+fn put_header(image: &mut [u8], header: [u8; 16])
+    requires { ⌜ 16 ≤ length (now image) ⌝ }
+    ensures { λ _. ⌜ now (image .exit) ≡ sets (now (image .entry)) 0 header ⌝ }
+{
+    copy(image, 0, &header);
+}
+
+// The header written, on any image: its length alone says which, and 203 is answered for a length that is no ATR's.
+pub fn write_header(image: &mut [u8]) -> Reply
+    ensures { λ r. ⌜ (let o = headerCall (now (image .entry)) in
+        (r ≡ o .reply) × (now (image .exit) ≡ o .image)) ⌝ }
+{
+    let n = image.len();
+    if n == Medium::SINGLE_ATR_BYTES {
+        put_header(image, Medium::SINGLE_HEADER);
+        return reply(status::SUCCESS, 0);
+    }
+    if n == Medium::DOUBLE_ATR_BYTES {
+        put_header(image, Medium::DOUBLE_HEADER);
+        return reply(status::SUCCESS, 0);
+    }
+    reply(status::BAD_IMAGE, 0)
+}

@@ -1,0 +1,7 @@
+//! The rules on a raw image.
+
+use model::image::Kind;
+
+mod rules;
+
+const KIND: Kind = Kind::Raw;

@@ -1,0 +1,7 @@
+//! The tests of the paper's rules, which each kind of image runs once: `crate::KIND` says which.
+
+mod common;
+
+mod bench_examples;
+mod channels;
+mod status_table;
