@@ -49,13 +49,20 @@ pub fn file_byte(m: Medium, image: &[u8], sector: u16, place: usize) -> u8
     file_byte_at(m, image, sector, start(m, sector), place)
 }
 
-// It written.
-pub fn put_file_byte(m: Medium, image: &mut [u8], sector: u16, place: usize, value: u8)
-    requires { ⌜ Whole m (now image) × (4 ≤ sector) × (sector ≤ 720) × (place < m .density .room + 3) ⌝ }
+// One byte of the file sector that starts at `at`, written.
+pub fn put_file_byte_at(
+    m: Medium,
+    image: &mut [u8],
+    sector: u16,
+    at: usize,
+    place: usize,
+    value: u8,
+)
+    requires { ⌜ Whole m (now image) × (4 ≤ sector) × (sector ≤ 720) × (at ≡ geometryOf m .start sector) × (place < m .density .room + 3) ⌝ }
     ensures { λ _. ⌜ view (geometryOf m) (now (image .exit)) ≡ put (view (geometryOf m) (now (image .entry))) sector place value ⌝ }
 {
-    let at = start(m, sector) + place;
-    image[at] = value;
+    let i = at + place;
+    image[i] = value;
 }
 
 // Two bytes, low byte first.

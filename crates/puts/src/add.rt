@@ -1,7 +1,9 @@
 // Bytes added at a file's end, a sector's run at a time.
 use files::gives::give;
-use image::link::put_link;
+use image::bytes::start;
+use image::link::put_link_at;
 use image::link::put_used;
+use image::link::put_used_at;
 use image::link::used;
 use image::slot::count;
 use image::slot::put_count;
@@ -10,7 +12,7 @@ use layout::density::Medium;
 use layout::status;
 use rules::Added;
 use runs::run::least;
-use runs::run::put_room;
+use runs::run::put_room_at;
 use runs::run::put_run;
 use volume::lowest::lowest_from;
 use volume::map::is_free;
@@ -65,41 +67,77 @@ fn add_run(m: Medium, image: &mut [u8], sector: u16, bytes: &[u8])
     put_used(m, image, sector, (n + bytes.len()) as u8);
 }
 
-// A sector behind a full one: the link to it, its own last bytes, and as many data bytes as it can hold.
-fn fill(m: Medium, image: &mut [u8], slot: u16, prev: u16, sector: u16, bytes: &[u8])
-    requires { ⌜ Whole m (now image) × (slot < 64) × (4 ≤ prev) × (prev < 720) × (4 ≤ sector) × (sector < 720) × (length (now bytes) ≡ m .density .room) ⌝ }
+// A sector behind a full one: the link to it, its own last bytes, and as many data bytes as it can hold. The full one starts at `prior`, the sector itself at `at`.
+fn fill(
+    m: Medium,
+    image: &mut [u8],
+    slot: u16,
+    prev: u16,
+    sector: u16,
+    bytes: &[u8],
+    prior: usize,
+    at: usize,
+)
+    requires { ⌜ Whole m (now image) × (slot < 64) × (4 ≤ prev) × (prev < 720) × (4 ≤ sector) × (sector < 720) × (length (now bytes) ≡ m .density .room) × (prior ≡ geometryOf m .start prev) × (at ≡ geometryOf m .start sector) ⌝ }
     ensures { λ _. ⌜ view (geometryOf m) (now (image .exit)) ≡ filled (geometryOf m) (view (geometryOf m) (now (image .entry))) slot prev sector (now (bytes .entry)) ⌝ }
 {
     let room = m.density.room;
-    put_link(m, image, prev, slot, sector);
-    put_link(m, image, sector, slot, 0);
-    put_used(m, image, sector, room as u8);
-    put_room(m, image, sector, bytes);
+    put_link_at(m, image, prev, prior, slot, sector);
+    put_link_at(m, image, sector, at, slot, 0);
+    put_used_at(m, image, sector, at, room as u8);
+    put_room_at(m, image, sector, at, bytes);
 }
 
 // The same, with the numbers of single density as constants.
-fn fill_sector(m: Medium, image: &mut [u8], slot: u16, prev: u16, sector: u16, bytes: &[u8])
-    requires { ⌜ Whole m (now image) × (slot < 64) × (4 ≤ prev) × (prev < 720) × (4 ≤ sector) × (sector < 720) × (length (now bytes) ≡ m .density .room) ⌝ }
+fn fill_sector(
+    m: Medium,
+    image: &mut [u8],
+    slot: u16,
+    prev: u16,
+    sector: u16,
+    bytes: &[u8],
+    prior: usize,
+    at: usize,
+)
+    requires { ⌜ Whole m (now image) × (slot < 64) × (4 ≤ prev) × (prev < 720) × (4 ≤ sector) × (sector < 720) × (length (now bytes) ≡ m .density .room) × (prior ≡ geometryOf m .start prev) × (at ≡ geometryOf m .start sector) ⌝ }
     ensures { λ _. ⌜ view (geometryOf m) (now (image .exit)) ≡ filled (geometryOf m) (view (geometryOf m) (now (image .entry))) slot prev sector (now (bytes .entry)) ⌝ }
 {
     let header = m.header;
     if m.density.size == Density::SINGLE_SIZE {
         let density = Density::single();
-        fill(Medium { header, density }, image, slot, prev, sector, bytes);
+        fill(
+            Medium { header, density },
+            image,
+            slot,
+            prev,
+            sector,
+            bytes,
+            prior,
+            at,
+        );
     } else {
-        fill(m, image, slot, prev, sector, bytes);
+        fill(m, image, slot, prev, sector, bytes, prior, at);
     }
 }
 
 // A sector given out behind a full one and filled.
-fn give_full(m: Medium, image: &mut [u8], slot: u16, prev: u16, sector: u16, bytes: &[u8])
-    requires { ⌜ Whole m (now image) × (slot < 64) × (4 ≤ prev) × (prev < 720) × (4 ≤ sector) × (sector < 720) × (length (now bytes) ≡ m .density .room) ⌝ }
+fn give_full(
+    m: Medium,
+    image: &mut [u8],
+    slot: u16,
+    prev: u16,
+    sector: u16,
+    bytes: &[u8],
+    prior: usize,
+    at: usize,
+)
+    requires { ⌜ Whole m (now image) × (slot < 64) × (4 ≤ prev) × (prev < 720) × (4 ≤ sector) × (sector < 720) × (length (now bytes) ≡ m .density .room) × (prior ≡ geometryOf m .start prev) × (at ≡ geometryOf m .start sector) ⌝ }
     ensures { λ _. ⌜ view (geometryOf m) (now (image .exit)) ≡ addRun (geometryOf m) (give (geometryOf m) (view (geometryOf m) (now (image .entry))) slot prev sector) sector (now (bytes .entry)) ⌝ }
 {
     mark(m, image, sector);
     let n = count(m, image, slot);
     put_count(m, image, slot, n as u32 + 1);
-    fill_sector(m, image, slot, prev, sector, bytes);
+    fill_sector(m, image, slot, prev, sector, bytes, prior, at);
 }
 
 // How far bytes have been added: the last sector, how many of them, and the sector from which the next search goes on.
@@ -121,7 +159,7 @@ fn come_to(sector: u16, count: usize, from: u16) -> Reached
 }
 
 // Full sectors added behind a full one that was given out last, as long as the sector after it on the disk is free: then that is the lowest, and no search waits for the map byte that the last
-// one changed.
+// one changed. Where it starts is handed on.
 fn put_whole(
     m: Medium,
     image: &mut [u8],
@@ -136,6 +174,7 @@ fn put_whole(
         × Puts (geometryOf m) slot (now (buffer .entry)) (view (geometryOf m) (now (image .entry))) last at (view (geometryOf m) (now (image .exit))) (r .sector) (r .count) ⌝ }
 {
     let room = m.density.room;
+    let size = m.density.size;
     let mut p = last;
     let mut i = at;
     if from != last + 1 {
@@ -144,15 +183,18 @@ fn put_whole(
     if (used(m, image, last) as usize) < room {
         return come_to(last, at, from);
     }
+    let mut here = start(m, last);
     while (p < 719) & (room <= buffer.len() - i) {
         let k = p + 1;
         if !is_free(m, image, k) {
             return come_to(p, i, k);
         }
         let e = i + room;
-        give_full(m, image, slot, p, k, &buffer[i..e]);
+        let there = here + size;
+        give_full(m, image, slot, p, k, &buffer[i..e], here, there);
         p = k;
         i = e;
+        here = there;
     }
     come_to(p, i, p + 1)
 }

@@ -19,13 +19,13 @@ pub fn put_run(m: Medium, image: &mut [u8], sector: u16, place: usize, from: &[u
     copy(image, first, from);
 }
 
-// All data bytes of a sector written.
-pub fn put_room(m: Medium, image: &mut [u8], sector: u16, from: &[u8])
-    requires { ⌜ Whole m (now image) × (4 ≤ sector) × (sector ≤ 720) × (length (now from) ≡ m .density .room) ⌝ }
+// All data bytes of the sector that starts at `at`, written.
+pub fn put_room_at(m: Medium, image: &mut [u8], sector: u16, at: usize, from: &[u8])
+    requires { ⌜ Whole m (now image) × (4 ≤ sector) × (sector ≤ 720) × (at ≡ geometryOf m .start sector) × (length (now from) ≡ m .density .room) ⌝ }
     ensures { λ _. ⌜ view (geometryOf m) (now (image .exit)) ≡ putRun (view (geometryOf m) (now (image .entry))) sector 0 (now (from .entry)) ⌝ }
 {
     let room = m.density.room;
-    copy_counted(image, start(m, sector), from, room);
+    copy_counted(image, at, from, room);
 }
 
 // Bytes of the sector that starts at `start`, `n` of them from `place` on, stored in the buffer from `at` on.

@@ -2,6 +2,7 @@ use Rattle.puts.proofs.Searching.{give-empty, room-data, searched-give,
 use Rattle.puts.proofs.Adding.{puts-start, puts-run, room-new, run-adds, more-left}
 use Rattle.puts.specs.Searched.{Searched}
 use Rattle.puts.specs.Come.{Puts}
+use Rattle.image.proofs.Places.{start-after, starts-within}
 use Rattle.volume.proofs.Below.{none-at}
 use Rattle.layout.proofs.Data.{Data, data-facts}
 use Rattle.layout.specs.Volume.{dataSector, lowest}
@@ -21,23 +22,23 @@ use Rattle.puts.proofs.add.put_whole.Statement.{statement}
 use Rattle.puts.proofs.add.put_whole.Tie as tie
 
 abbrev Inv-loop : tie.InvT-loop
-Inv-loop m image₀ slot last buffer at from room p₀ i₀ image p i = Whole m image × (dataSector p ≡ true) × (m .density .room ≤ used (geometryOf m) (view (geometryOf m) image p)) × Searched (view (geometryOf m) image 360) (p + 1) × Puts (geometryOf m) slot buffer (view (geometryOf m) image₀) last at (view (geometryOf m) image) p i
+Inv-loop m image₀ slot last buffer at from room size p₀ i₀ here₀ image p i here = Whole m image × (dataSector p ≡ true) × (m .density .room ≤ used (geometryOf m) (view (geometryOf m) image p)) × Searched (view (geometryOf m) image 360) (p + 1) × Puts (geometryOf m) slot buffer (view (geometryOf m) image₀) last at (view (geometryOf m) image) p i × (here ≡ geometryOf m .start p)
 
 abbrev μ-loop : tie.MeasureT-loop
-μ-loop m image₀ slot last buffer at from room p₀ i₀ image p i = length buffer - i
+μ-loop m image₀ slot last buffer at from room size p₀ i₀ here₀ image p i here = length buffer - i
 
 -- the disk goes on, and the buffer has as many bytes
-tested : (c : tie.In-loop Inv-loop μ-loop) → (c .before .loop .p < 719) × (c .before .before .before .before .before .before .before .before .args .m .density .room ≤ length (c .before .before .before .before .before .before .before .before .args .buffer .now) - c .before .loop .i)
-tested c = more-left (c .before .loop .p) 719 _ (length (c .before .before .before .before .before .before .before .before .args .buffer .now) - c .before .loop .i) (c .loop-test .taken)
+tested : (c : tie.In-loop Inv-loop μ-loop) → (c .before .loop .p < 719) × (c .before .before .before .before .before .before .before .before .before .args .m .density .room ≤ length (c .before .before .before .before .before .before .before .before .before .args .buffer .now) - c .before .loop .i)
+tested c = more-left (c .before .loop .p) 719 _ (length (c .before .before .before .before .before .before .before .before .before .args .buffer .now) - c .before .loop .i) (c .loop-test .taken)
 
 -- the sector after the last one is the lowest free, and a data sector
-spot : (c : tie.Else3 Inv-loop μ-loop) → (c .before .before .before .before .loop .p + 1 ≡ lowest (view (geometryOf (c .before .before .before .before .before .before .before .before .before .before .before .args .m)) (c .before .before .before .before .loop .image) 360)) × (c .before .before .before .before .loop .p + 1 ≢ 0) × (dataSector (c .before .before .before .before .loop .p + 1) ≡ true)
+spot : (c : tie.Else3 Inv-loop μ-loop) → (c .before .before .before .before .loop .p + 1 ≡ lowest (view (geometryOf (c .before .before .before .before .before .before .before .before .before .before .before .before .args .m)) (c .before .before .before .before .loop .image) 360)) × (c .before .before .before .before .loop .p + 1 ≢ 0) × (dataSector (c .before .before .before .before .loop .p + 1) ≡ true)
 spot c =
     let t = tested (c .before .before .before) in
-    let d = view (geometryOf (c .before .before .before .before .before .before .before .before .before .before .before .args .m)) (c .before .before .before .before .loop .image) in
+    let d = view (geometryOf (c .before .before .before .before .before .before .before .before .before .before .before .before .args .m)) (c .before .before .before .before .loop .image) in
     let low = none-at (d 360) (c .before .before .before .before .loop .p + 1) (c .before .before .before .before .loop .inv .3 .none) (omega arith) (sym (c .before .is-free .ensures) ∙ not-false _ (c .if3 .left)) in
     let some : c .before .before .before .before .loop .p + 1 ≢ 0 = λ z. omega arith in
-    (low, some, room-data (geometryOf (c .before .before .before .before .before .before .before .before .before .before .before .args .m)) d (c .before .before .before .before .loop .p + 1) (c .before .before .before .before .loop .inv .3) (c .before .before .before .before .loop .p + 1) low some)
+    (low, some, room-data (geometryOf (c .before .before .before .before .before .before .before .before .before .before .before .before .args .m)) d (c .before .before .before .before .loop .p + 1) (c .before .before .before .before .loop .inv .3) (c .before .before .before .before .loop .p + 1) low some)
 
 add-if1 : tie.Need-add-if1 Inv-loop μ-loop
 add-if1 c = let q = data-facts _ (c .before .before .pre .2) in omega arith
@@ -63,8 +64,11 @@ same-length c = search needs
 returns-2 : tie.Need-returns-2 Inv-loop μ-loop
 returns-2 c = rw (c .come-to2 .ensures) (c .before .before .before .before .before .before .before .pre .2, c .before .before .before .before .before .before .before .pre .4, puts-start (c .before .before .before .before .before .before .before .pre .3))
 
+start-requires : tie.Need-start-requires Inv-loop μ-loop
+start-requires c κs = let q = data-facts _ (c .before .before .before .before .before .before .pre .2) in search needs
+
 loop-holds : tie.Need-loop-holds Inv-loop μ-loop
-loop-holds c = (c .before .before .before .before .before .before .pre .0, c .before .before .before .before .before .before .pre .2, omega arith, rw (← c .before .before .before .if1 .left) (c .before .before .before .before .before .before .pre .4), puts-start (c .before .before .before .before .before .before .pre .3))
+loop-holds c = (c .before .before .before .before .before .before .before .pre .0, c .before .before .before .before .before .before .before .pre .2, omega arith, rw (← c .before .before .before .before .if1 .left) (c .before .before .before .before .before .before .before .pre .4), puts-start (c .before .before .before .before .before .before .before .pre .3), c .start .ensures .0)
 
 sub-loop : tie.Need-sub-loop Inv-loop μ-loop
 sub-loop c = let w = c .loop .inv .4 .most in omega arith
@@ -87,6 +91,12 @@ returns-3 c = rw (c .come-to3 .ensures) (c .before .before .before .before .befo
 add-e : tie.Need-add-e Inv-loop μ-loop
 add-e c = let t = tested (c .before .before .before) in let w = c .before .before .before .before .loop .inv .4 .most in omega arith
 
+add-there : tie.Need-add-there Inv-loop μ-loop
+add-there c =
+    let q = data-facts _ (c .before .before .before .before .loop .inv .1) in
+    let s = start-after (c .before .before .before .before .before .before .before .before .before .before .before .before .args .m) (c .before .before .before .before .loop .p) (q .pos) in
+    let w = starts-within _ (c .before .before .before .before .before .before .before .before .before .before .before .before .pre .0 .0) (c .before .before .before .before .loop .p) (q .pos) (omega arith) in omega arith
+
 sub-give-full : tie.Need-sub-give-full Inv-loop μ-loop
 sub-give-full c = search needs
 
@@ -102,14 +112,15 @@ give-full-requires c κs =
     let k = data-facts _ (spot (c .before .before) .2) in
     let t = tested (c .before .before .before .before .before) in
     let w = c .before .before .before .before .before .before .loop .inv .4 .most in
-    (omega arith, omega arith, omega arith, omega arith, omega arith, omega arith, simp (length-take, length-drop) (omega arith))
+    let s = start-after (c .before .before .before .before .before .before .before .before .before .before .before .before .before .before .args .m) (c .before .before .before .before .before .before .loop .p) (q .pos) in
+    (omega arith, omega arith, omega arith, omega arith, omega arith, omega arith, simp (length-take, length-drop) (omega arith), c .before .before .before .before .before .before .loop .inv .5, omega arith)
 
 loop-less : tie.Need-loop-less Inv-loop μ-loop
-loop-less c = let t = tested (c .before .before .before .before .before .before .before .before) in let w = c .before .before .before .before .before .before .before .before .before .loop .inv .4 .most in let r = c .before .before .before .before .before .before .before .before .before .before .before .before .before .before .before .before .pre .0 .0 in omega arith
+loop-less c = let t = tested (c .before .before .before .before .before .before .before .before) in let w = c .before .before .before .before .before .before .before .before .before .loop .inv .4 .most in let r = c .before .before .before .before .before .before .before .before .before .before .before .before .before .before .before .before .before .pre .0 .0 in omega arith
 
 loop-again : tie.Need-loop-again Inv-loop μ-loop
 loop-again c =
-    let a = c .before .before .before .before .before .before .before .before .before .before .before .before .before .before .before .before .args in
+    let a = c .before .before .before .before .before .before .before .before .before .before .before .before .before .before .before .before .before .args in
     let g = geometryOf (a .m) in
     let room = a .m .density .room in
     let inv = c .before .before .before .before .before .before .before .before .before .loop .inv in
@@ -122,9 +133,11 @@ loop-again c =
     let kind = spot (c .before .before .before .before .before) .2 in
     let e = room-new g (a .slot) d p k (inv .2) low some in
     let empty = give-empty g d (a .slot) p k in
-    let regular = c .before .before .before .before .before .before .before .before .before .before .before .before .before .before .before .before .pre .0 .0 in
+    let regular = c .before .before .before .before .before .before .before .before .before .before .before .before .before .before .before .before .before .pre .0 .0 in
     let most = inv .4 .most in
     let t = tested (c .before .before .before .before .before .before .before .before) in
+    let q = data-facts _ (inv .1) in
+    let s = start-after (a .m) p (q .pos) in
     let within : i + room ≤ length (a .buffer .now) = omega arith in
     let xs = take (i + room - i) (drop i (a .buffer .now)) in
     let n : length xs ≡ room = rw (add-sub-cancel-left i room) (length-take-le room (drop i (a .buffer .now)) (rw length-drop (omega arith))) in (
@@ -133,6 +146,7 @@ loop-again c =
       rw (c .before .before .give-full .ensures, run-adds g (give g d (a .slot) p k) k xs, empty, n) (omega arith),
       rw (c .before .before .give-full .ensures) (searched-add g (give g d (a .slot) p k) _ (searched-give g d k (inv .3) k low some (a .slot) p (inv .1)) k xs kind),
       puts-run (inv .4) k (give g d (a .slot) p k) (sym (ap (λ o. o .sector) e)) (sym (ap (λ o. o .disk) e)) some (rw empty (omega arith)) room (omega arith) within (rw empty (omega arith)) _ (c .before .before .give-full .ensures ∙ rw (add-sub-cancel-left i room)),
+      omega arith,
     )
 
 add-come-to : tie.Need-add-come-to Inv-loop μ-loop
@@ -161,6 +175,7 @@ put-whole-spec =
     come-to-requires-2
     same-length
     returns-2
+    start-requires
     loop-holds
     sub-loop
     add-k
@@ -169,6 +184,7 @@ put-whole-spec =
     same-length-2
     returns-3
     add-e
+    add-there
     sub-give-full
     part-give-full-start
     part-give-full-end
