@@ -9,7 +9,7 @@ use lib.ListN.{length}
 use lib.Seq.{sets, sets-eq}
 use borrow.Author.Tests.{eq-eqb, ne-eqb}
 use Rattle.layout.specs.declared.density.Medium.{Medium}
-use Rattle.layout.specs.Basics.{check, valuesFrom}
+use Rattle.layout.specs.Basics.{valuesFrom}
 use Rattle.layout.specs.Image.{atrSingle, atrDouble}
 use Rattle.layout.specs.Header.{units, headerByte}
 use Rattle.layout.proofs.Check.{check-yes, check-no}

@@ -1,6 +1,6 @@
 -- Showing: its part is what a get with sectors left delivers from that sector.
-use mathlib.Core.Bool.{Bool, true, false, not, _&&_, _||_}
-use mathlib.Core.List.{List, [], _∷_, _++_, append-nil}
+use mathlib.Core.Bool.{true, false, not, _&&_, _||_}
+use mathlib.Core.List.{List, _∷_, _++_, append-nil}
 use mathlib.Core.Logic.{_≢_}
 use mathlib.Core.Path.{_≡_, refl, sym, ap, _∙_}
 use Prim.Native.Nat.{ℕ, suc, zero, _+_, _-_, _≤_, _<_}
@@ -20,10 +20,9 @@ use Rattle.layout.proofs.Header.{served-whole}
 use Rattle.layout.specs.File.{used, fits}
 use Rattle.layout.specs.Status.{success, badChain}
 use Rattle.layout.proofs.Check.{check-no}
-use Rattle.layout.proofs.Logic.{and-left, and-right, or-right}
-use Rattle.layout.proofs.Data.{data-facts}
+use Rattle.layout.proofs.Logic.{and-left, or-right}
 use Rattle.layout.proofs.Image.{values-length}
-use Rattle.layout.proofs.Chain.{fits-pos, fits-data, fits-used}
+use Rattle.layout.proofs.Chain.{fits-pos}
 use Rattle.rules.specs.declared.Seek.the-variants.{Ready, Broken}
 use Rattle.rules.specs.Get.{GetOutcome, place, reads, gets, hasByte, seek, getFrom, readable, getOn}
 use Rattle.rules.specs.Showing.{enters, shows, shownLength, shownPart}

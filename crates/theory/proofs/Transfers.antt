@@ -33,7 +33,7 @@ use Rattle.rules.specs.Demand1.{Unchanged, Moved, OnlyChannel, OnlyEnd, OnlyEnd
 use Rattle.rules.specs.Lists.{cioOf, outcomeOf}
 use Rattle.rules.specs.Thin.{ImagePutOutcome, thinGet, thinPut}
 use Rattle.theory.proofs.Rows.{row-get, row-put, row-close, row-buffer}
-use Rattle.theory.proofs.Adding.{Leaves, put-leaves}
+use Rattle.theory.proofs.Adding.{put-leaves}
 use Rattle.theory.proofs.Refusals.{Kept, unchanged}
 use Rattle.theory.proofs.Served.{laws, kept-image, held-view, not-served}
 use Rattle.theory.proofs.Placed.{Placed, view-placed}

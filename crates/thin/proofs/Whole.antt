@@ -2,13 +2,12 @@
 use mathlib.Core.List.{List, []}
 use mathlib.Core.Path.{_≡_, refl, sym, ap, _∙_}
 use Prim.Native.Nat.{ℕ, _<_}
-use lib.ListN.{length}
 use borrow.Author.Tests.{eq-eqb, lt-leb}
 use Rattle.layout.specs.declared.Table.{Table}
 use Rattle.layout.specs.declared.Found.the-variants.{Nothing}
 use Rattle.layout.specs.declared.Served.{Served}
 use Rattle.layout.specs.declared.Served.the-variants.{As, Not}
-use Rattle.layout.specs.Image.{geometryOf, view, imageOf}
+use Rattle.layout.specs.Image.{geometryOf}
 use Rattle.layout.specs.Header.{servedAs}
 use Rattle.layout.specs.Channels.{channel, stateOf, withState}
 use Rattle.layout.proofs.Channels.{with-id}
@@ -16,7 +15,6 @@ use Rattle.layout.proofs.Check.{check-yes, check-no, served-as, served-not}
 use Rattle.layout.proofs.Header.{served-whole}
 use Rattle.layout.proofs.Image.{lawful, image-view}
 use Rattle.rules.specs.declared.Block.{Block}
-use Rattle.rules.specs.declared.Answer.{Answer}
 use Rattle.rules.specs.Get.{GetOutcome}
 use Rattle.rules.specs.Commands.{putAt}
 use Rattle.rules.specs.Cio.{Outcome, outcome, getAt, command, cio, ImageOutcome, leaves, cioCall}

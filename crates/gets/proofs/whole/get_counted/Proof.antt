@@ -1,9 +1,7 @@
 use native.Mathlib.Nat.{add-zero}
-use Rattle.gets.proofs.Counting.{Counting, leads-full, counting-holds, counting-again, counting-done}
+use Rattle.gets.proofs.Counting.{Counting, counting-holds, counting-again, counting-done}
 use Rattle.gets.proofs.Getting.{room-left}
-use Rattle.gets.proofs.Seeking.{full-fits}
 use Rattle.image.proofs.Places.{start-after, starts-within}
-use Rattle.layout.proofs.Chain.{fits-data}
 use Rattle.layout.proofs.Data.{data-facts}
 use Rattle.layout.proofs.Image.{lawful}
 use Rattle.layout.specs.Image.{geometryOf, view}

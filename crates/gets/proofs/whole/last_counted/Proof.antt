@@ -1,7 +1,6 @@
 use Rattle.gets.proofs.Counting.{data-low, data-high, high-least}
 use Rattle.layout.proofs.Data.{data-facts}
 use native.Mathlib.Omega.{arith}
-use borrow.Author.Needs.{needs}
 use Rattle.gets.proofs.whole.last_counted.Statement.{statement}
 use Rattle.gets.proofs.whole.last_counted.Tie as tie
 

@@ -2,8 +2,7 @@ use Rattle.gets.proofs.Counting.{leads-test}
 use Rattle.runs.proofs.Packed.{view-small}
 use Rattle.layout.proofs.Data.{data-facts}
 use Rattle.layout.specs.Image.{geometryOf, view}
-use Prim.Native.Nat.{_+_, _<_}
-use mathlib.Core.Path.{_∙_}
+use Prim.Native.Nat.{_+_}
 use native.Mathlib.Omega.{arith}
 use borrow.Author.Needs.{needs}
 use Rattle.gets.proofs.whole.leads_on.Statement.{statement}

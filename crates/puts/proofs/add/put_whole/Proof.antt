@@ -4,7 +4,7 @@ use Rattle.puts.specs.Searched.{Searched}
 use Rattle.puts.specs.Come.{Puts}
 use Rattle.image.proofs.Places.{start-after, starts-within}
 use Rattle.volume.proofs.Below.{none-at}
-use Rattle.layout.proofs.Data.{Data, data-facts}
+use Rattle.layout.proofs.Data.{data-facts}
 use Rattle.layout.specs.Volume.{dataSector, lowest}
 use Rattle.layout.specs.File.{used, give}
 use Rattle.layout.specs.Image.{Whole, geometryOf, view}

@@ -1,6 +1,4 @@
 use Rattle.rules.specs.Showing.{shows}
-use borrow.Author.Tests.{not-true, not-false}
-use native.Mathlib.Omega.{arith}
 use mathlib.Core.Path.{sym, _∙_}
 use Rattle.layout.proofs.Check.{served-as, served-not}
 use Rattle.layout.proofs.Header.{served-whole}
