@@ -97,20 +97,20 @@ fn get_counted(
 {
     let room = m.density.room;
     let size = m.density.size;
+    let end = sector + 1 + most;
     let mut at = start(m, sector + 1);
-    let mut j: u16 = 0;
+    let mut k = sector + 1;
     let mut i = from;
-    while (j < most) & (room <= buffer.len() - i) {
-        let k = sector + 1 + j;
+    while (k < end) & (room <= buffer.len() - i) {
         if !leads_on(m, image, slot, k, at) {
-            return j;
+            return k - sector - 1;
         }
         get_run_at(m, image, k, at, 0, room, buffer, i);
+        k += 1;
         at += size;
-        j += 1;
         i += room;
     }
-    j
+    k - sector - 1
 }
 
 // The same, with the numbers of each density as constants: the loop is short enough to be made once for each of them.

@@ -3,7 +3,6 @@ use layout::density::Density;
 use layout::density::Medium;
 ghost use mathlib.Core.Path.{_≡_};
 ghost use Prim.Native.Nat.{_+_, _-_, _*_, _≤_, _<_};
-ghost use lib.ListN.{length};
 ghost use Rattle.layout.specs.Image.{Regular, Whole, geometryOf, view, put, word, putWord};
 
 // Where a sector starts, from the fourth on. One product and no branch, so that the same place computed again costs nothing and a walk in the disk's order only adds.
@@ -49,20 +48,13 @@ pub fn file_byte(m: Medium, image: &[u8], sector: u16, place: usize) -> u8
     file_byte_at(m, image, sector, start(m, sector), place)
 }
 
-// One byte of the file sector that starts at `at`, written.
-pub fn put_file_byte_at(
-    m: Medium,
-    image: &mut [u8],
-    sector: u16,
-    at: usize,
-    place: usize,
-    value: u8,
-)
-    requires { ⌜ Whole m (now image) × (4 ≤ sector) × (sector ≤ 720) × (at ≡ geometryOf m .start sector) × (place < m .density .room + 3) ⌝ }
+// It written.
+pub fn put_file_byte(m: Medium, image: &mut [u8], sector: u16, place: usize, value: u8)
+    requires { ⌜ Whole m (now image) × (4 ≤ sector) × (sector ≤ 720) × (place < m .density .room + 3) ⌝ }
     ensures { λ _. ⌜ view (geometryOf m) (now (image .exit)) ≡ put (view (geometryOf m) (now (image .entry))) sector place value ⌝ }
 {
-    let i = at + place;
-    image[i] = value;
+    let at = start(m, sector) + place;
+    image[at] = value;
 }
 
 // Two bytes, low byte first.

@@ -1,13 +1,11 @@
 // The last three bytes of a file sector: slot number and next sector, and the bytes in use.
 use super::bytes::file_byte;
 use super::bytes::file_byte_at;
-use super::bytes::put_file_byte_at;
-use super::bytes::start;
+use super::bytes::put_file_byte;
 use layout::density::Density;
 use layout::density::Medium;
 ghost use mathlib.Core.Path.{_≡_};
 ghost use Prim.Native.Nat.{_+_, _-_, _*_, _≤_, _<_};
-ghost use lib.ListN.{length};
 ghost use Rattle.layout.specs.Image.{Whole, geometryOf, view};
 ghost use Rattle.layout.specs.File.{owner, next, used, putLink, putUsed};
 
@@ -55,43 +53,25 @@ pub fn used_at(m: Medium, image: &[u8], sector: u16, at: usize) -> u8
     file_byte_at(m, image, sector, at, m.density.room + Density::USED)
 }
 
-// Slot number and next sector written to the sector that starts at `at`.
-pub fn put_link_at(m: Medium, image: &mut [u8], sector: u16, at: usize, slot: u16, next: u16)
-    requires { ⌜ Whole m (now image) × (4 ≤ sector) × (sector ≤ 720) × (at ≡ geometryOf m .start sector) × (slot < 64) × (next < 1024) ⌝ }
-    ensures { λ _. ⌜ view (geometryOf m) (now (image .exit)) ≡ putLink (geometryOf m) (view (geometryOf m) (now (image .entry))) sector slot next ⌝ }
-{
-    put_file_byte_at(
-        m,
-        image,
-        sector,
-        at,
-        m.density.room,
-        (slot * 4 + next / 256) as u8,
-    );
-    put_file_byte_at(
-        m,
-        image,
-        sector,
-        at,
-        m.density.room + Density::NEXT,
-        (next % 256) as u8,
-    );
-}
-
-// The bytes in use written to the sector that starts at `at`.
-pub fn put_used_at(m: Medium, image: &mut [u8], sector: u16, at: usize, n: u8)
-    requires { ⌜ Whole m (now image) × (4 ≤ sector) × (sector ≤ 720) × (at ≡ geometryOf m .start sector) ⌝ }
-    ensures { λ _. ⌜ view (geometryOf m) (now (image .exit)) ≡ putUsed (geometryOf m) (view (geometryOf m) (now (image .entry))) sector n ⌝ }
-{
-    put_file_byte_at(m, image, sector, at, m.density.room + Density::USED, n);
-}
-
 // Slot number and next sector written.
 pub fn put_link(m: Medium, image: &mut [u8], sector: u16, slot: u16, next: u16)
     requires { ⌜ Whole m (now image) × (4 ≤ sector) × (sector ≤ 720) × (slot < 64) × (next < 1024) ⌝ }
     ensures { λ _. ⌜ view (geometryOf m) (now (image .exit)) ≡ putLink (geometryOf m) (view (geometryOf m) (now (image .entry))) sector slot next ⌝ }
 {
-    put_link_at(m, image, sector, start(m, sector), slot, next);
+    put_file_byte(
+        m,
+        image,
+        sector,
+        m.density.room,
+        (slot * 4 + next / 256) as u8,
+    );
+    put_file_byte(
+        m,
+        image,
+        sector,
+        m.density.room + Density::NEXT,
+        (next % 256) as u8,
+    );
 }
 
 // The bytes in use written.
@@ -99,5 +79,5 @@ pub fn put_used(m: Medium, image: &mut [u8], sector: u16, n: u8)
     requires { ⌜ Whole m (now image) × (4 ≤ sector) × (sector ≤ 720) ⌝ }
     ensures { λ _. ⌜ view (geometryOf m) (now (image .exit)) ≡ putUsed (geometryOf m) (view (geometryOf m) (now (image .entry))) sector n ⌝ }
 {
-    put_used_at(m, image, sector, start(m, sector), n);
+    put_file_byte(m, image, sector, m.density.room + Density::USED, n);
 }

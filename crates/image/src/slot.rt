@@ -4,7 +4,6 @@ use super::bytes::start;
 use layout::density::Medium;
 ghost use mathlib.Core.Path.{_≡_};
 ghost use Prim.Native.Nat.{_+_, _-_, _*_, _/_, _%_, _≤_, _<_};
-ghost use lib.ListN.{length};
 ghost use Rattle.layout.specs.Image.{Regular, Whole, geometryOf, view};
 ghost use Rattle.layout.specs.Directory.{entry, putEntry, flag, putFlag, count, putCount, first, putFirst};
 

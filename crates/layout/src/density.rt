@@ -14,9 +14,6 @@ impl Density {
 
     pub const BOOT_BYTES: usize = 3 * Density::BOOT_SIZE;
 
-    // The volume table and the directory use so many bytes of each of their sectors, from the first on.
-    pub const TABLE_BYTES: usize = 128;
-
     // Single density: bytes of a sector, data bytes of a file sector, and bytes of all 720 sectors.
     pub const SINGLE_SIZE: usize = 128;
 

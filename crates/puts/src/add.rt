@@ -1,9 +1,7 @@
 // Bytes added at a file's end, a sector's run at a time.
 use files::gives::give;
-use image::bytes::start;
-use image::link::put_link_at;
+use image::link::put_link;
 use image::link::put_used;
-use image::link::put_used_at;
 use image::link::used;
 use image::slot::count;
 use image::slot::put_count;
@@ -12,20 +10,23 @@ use layout::density::Medium;
 use layout::status;
 use rules::Added;
 use runs::run::least;
-use runs::run::put_room_at;
 use runs::run::put_run;
+use volume::lowest::lowest_free;
 use volume::lowest::lowest_from;
+use volume::map::free_count;
 use volume::map::is_free;
-use volume::map::mark;
+use volume::map::less;
+use volume::map::set_free_count;
+use volume::map::set_used;
 ghost use mathlib.Core.Bool.{true};
 ghost use mathlib.Core.Path.{_≡_};
-ghost use Prim.Native.Nat.{_+_, _≤_, _<_};
-ghost use lib.ListN.{length};
+ghost use Prim.Native.Nat.{_+_, _-_, _*_, _≤_, _<_};
+ghost use lib.ListN.{length, take, drop};
 ghost use Rattle.layout.specs.Image.{Whole, geometryOf, view};
 ghost use Rattle.layout.specs.Volume.{dataSector, good};
-ghost use Rattle.layout.specs.File.{used, give};
+ghost use Rattle.layout.specs.File.{used};
 ghost use Rattle.rules.specs.Put.{roomFor, putFrom};
-ghost use Rattle.puts.specs.Run.{addRun, filled};
+ghost use Rattle.puts.specs.Run.{addRun, chained, settled, settledFrom};
 ghost use Rattle.puts.specs.Come.{Puts};
 ghost use Rattle.puts.specs.Searched.{Searched, HasRoom};
 
@@ -67,77 +68,128 @@ fn add_run(m: Medium, image: &mut [u8], sector: u16, bytes: &[u8])
     put_used(m, image, sector, (n + bytes.len()) as u8);
 }
 
-// A sector behind a full one: the link to it, its own last bytes, and as many data bytes as it can hold. The full one starts at `prior`, the sector itself at `at`.
-fn fill(
-    m: Medium,
-    image: &mut [u8],
-    slot: u16,
-    prev: u16,
-    sector: u16,
-    bytes: &[u8],
-    prior: usize,
-    at: usize,
-)
-    requires { ⌜ Whole m (now image) × (slot < 64) × (4 ≤ prev) × (prev < 720) × (4 ≤ sector) × (sector < 720) × (length (now bytes) ≡ m .density .room) × (prior ≡ geometryOf m .start prev) × (at ≡ geometryOf m .start sector) ⌝ }
-    ensures { λ _. ⌜ view (geometryOf m) (now (image .exit)) ≡ filled (geometryOf m) (view (geometryOf m) (now (image .entry))) slot prev sector (now (bytes .entry)) ⌝ }
+// A free sector chained behind a full one and filled: its map bit, the link to it, its bytes in use and its data. Its own link and both counts are left for later.
+fn chain(m: Medium, image: &mut [u8], slot: u16, prev: u16, sector: u16, bytes: &[u8])
+    requires { ⌜ Whole m (now image) × (slot < 64) × (4 ≤ prev) × (prev < 720) × (4 ≤ sector) × (sector < 720) × (length (now bytes) ≡ m .density .room) ⌝ }
+    ensures { λ _. ⌜ view (geometryOf m) (now (image .exit)) ≡ chained (geometryOf m) (view (geometryOf m) (now (image .entry))) slot prev sector (now (bytes .entry)) ⌝ }
 {
     let room = m.density.room;
-    put_link_at(m, image, prev, prior, slot, sector);
-    put_link_at(m, image, sector, at, slot, 0);
-    put_used_at(m, image, sector, at, room as u8);
-    put_room_at(m, image, sector, at, bytes);
+    set_used(m, image, sector);
+    put_link(m, image, prev, slot, sector);
+    put_used(m, image, sector, room as u8);
+    put_run(m, image, sector, 0, bytes);
 }
 
-// The same, with the numbers of single density as constants.
-fn fill_sector(
+// The sector after `prev` on the disk, chained and filled. The sectors behind `last` up to `prev` hold the bytes of the buffer from `from` on, and it gets the next ones. Where those begin is worked
+// out from the sector alone, so that a loop over it counts only one number.
+fn chain_next(
     m: Medium,
     image: &mut [u8],
     slot: u16,
+    last: u16,
     prev: u16,
-    sector: u16,
-    bytes: &[u8],
-    prior: usize,
-    at: usize,
+    buffer: &[u8],
+    from: usize,
 )
-    requires { ⌜ Whole m (now image) × (slot < 64) × (4 ≤ prev) × (prev < 720) × (4 ≤ sector) × (sector < 720) × (length (now bytes) ≡ m .density .room) × (prior ≡ geometryOf m .start prev) × (at ≡ geometryOf m .start sector) ⌝ }
-    ensures { λ _. ⌜ view (geometryOf m) (now (image .exit)) ≡ filled (geometryOf m) (view (geometryOf m) (now (image .entry))) slot prev sector (now (bytes .entry)) ⌝ }
+    requires { ⌜ Whole m (now image) × (slot < 64) × (4 ≤ last) × (last ≤ prev) × (prev < 719) × (from + (prev - last + 1) * m .density .room ≤ length (now buffer)) ⌝ }
+    ensures { λ _. ⌜ view (geometryOf m) (now (image .exit)) ≡ chained (geometryOf m) (view (geometryOf m) (now (image .entry))) slot prev (prev + 1) (take (m .density .room) (drop (from + (prev - last) * m .density .room) (now (buffer .entry)))) ⌝ }
+{
+    let room = m.density.room;
+    let byte = from + (prev - last) as usize * room;
+    let end = byte + room;
+    chain(m, image, slot, prev, prev + 1, &buffer[byte..end]);
+}
+
+// The same, with the numbers of each density as constants. A loop over it is then made once for each of them, with constant steps.
+fn chain_after(
+    m: Medium,
+    image: &mut [u8],
+    slot: u16,
+    last: u16,
+    prev: u16,
+    buffer: &[u8],
+    from: usize,
+)
+    requires { ⌜ Whole m (now image) × (slot < 64) × (4 ≤ last) × (last ≤ prev) × (prev < 719) × (from + (prev - last + 1) * m .density .room ≤ length (now buffer)) ⌝ }
+    ensures { λ _. ⌜ view (geometryOf m) (now (image .exit)) ≡ chained (geometryOf m) (view (geometryOf m) (now (image .entry))) slot prev (prev + 1) (take (m .density .room) (drop (from + (prev - last) * m .density .room) (now (buffer .entry)))) ⌝ }
 {
     let header = m.header;
     if m.density.size == Density::SINGLE_SIZE {
         let density = Density::single();
-        fill(
+        chain_next(
             Medium { header, density },
             image,
             slot,
+            last,
             prev,
-            sector,
-            bytes,
-            prior,
-            at,
+            buffer,
+            from,
+        );
+    } else if m.density.size == Density::DOUBLE_SIZE {
+        let density = Density::double();
+        chain_next(
+            Medium { header, density },
+            image,
+            slot,
+            last,
+            prev,
+            buffer,
+            from,
         );
     } else {
-        fill(m, image, slot, prev, sector, bytes, prior, at);
+        chain_next(m, image, slot, last, prev, buffer, from);
     }
 }
 
-// A sector given out behind a full one and filled.
-fn give_full(
+// Full sectors chained behind a full one that was given out last, up to sector `end`, as long as the sector after it on the disk is free: then that is the lowest, and no search waits for the map
+// byte that the last one changed. The last of them, or the full one.
+fn chain_free(
     m: Medium,
     image: &mut [u8],
     slot: u16,
-    prev: u16,
-    sector: u16,
-    bytes: &[u8],
-    prior: usize,
-    at: usize,
-)
-    requires { ⌜ Whole m (now image) × (slot < 64) × (4 ≤ prev) × (prev < 720) × (4 ≤ sector) × (sector < 720) × (length (now bytes) ≡ m .density .room) × (prior ≡ geometryOf m .start prev) × (at ≡ geometryOf m .start sector) ⌝ }
-    ensures { λ _. ⌜ view (geometryOf m) (now (image .exit)) ≡ addRun (geometryOf m) (give (geometryOf m) (view (geometryOf m) (now (image .entry))) slot prev sector) sector (now (bytes .entry)) ⌝ }
+    last: u16,
+    end: u16,
+    buffer: &[u8],
+    from: usize,
+) -> u16
+    requires { ⌜ Whole m (now image) × (slot < 64) × (dataSector last ≡ true) × (last ≤ end) × (end ≤ 719) × (from + (end - last) * m .density .room ≤ length (now buffer)) × (m .density .room ≤ used (geometryOf m) (view (geometryOf m) (now image) last)) × Searched (view (geometryOf m) (now image) 360) (last + 1) ⌝ }
+    ensures { λ r. ⌜ (last ≤ r) × (dataSector r ≡ true) × Searched (settledFrom (geometryOf m) (view (geometryOf m) (now (image .exit))) slot last r 360) (r + 1)
+        × Puts (geometryOf m) slot (now (buffer .entry)) (view (geometryOf m) (now (image .entry))) last from (settledFrom (geometryOf m) (view (geometryOf m) (now (image .exit))) slot last r) r (from + (r - last) * m .density .room) ⌝ }
 {
-    mark(m, image, sector);
-    let n = count(m, image, slot);
-    put_count(m, image, slot, n as u32 + 1);
-    fill_sector(m, image, slot, prev, sector, bytes, prior, at);
+    let mut p = last;
+    while p < end {
+        let k = p + 1;
+        if !is_free(m, image, k) {
+            return p;
+        }
+        chain_after(m, image, slot, last, p, buffer, from);
+        p = k;
+    }
+    p
+}
+
+// The sector that is `n` behind sector `last` on the disk, or the last one on it that a file may have.
+fn last_within(last: u16, n: usize) -> u16
+    requires { ⌜ last ≤ 719 ⌝ }
+    ensures { λ r. ⌜ (last ≤ r) × (r ≤ 719) × (r - last ≤ n) ⌝ }
+{
+    let most = 719 - last;
+    if n < most as usize {
+        return last + n as u16;
+    }
+    719
+}
+
+// What was left for later when `n` sectors were chained, the last of them `last`: its own link, the slot's count and the free count.
+fn settle(m: Medium, image: &mut [u8], slot: u16, last: u16, n: u16)
+    requires { ⌜ Whole m (now image) × (slot < 64) × (4 ≤ last) × (last < 720) ⌝ }
+    ensures { λ _. ⌜ view (geometryOf m) (now (image .exit)) ≡ settled (geometryOf m) (view (geometryOf m) (now (image .entry))) slot last n ⌝ }
+{
+    put_link(m, image, last, slot, 0);
+    let sectors = count(m, image, slot);
+    put_count(m, image, slot, sectors as u32 + n as u32);
+    let had = free_count(m, image);
+    set_free_count(m, image, less(had, n));
 }
 
 // How far bytes have been added: the last sector, how many of them, and the sector from which the next search goes on.
@@ -158,8 +210,7 @@ fn come_to(sector: u16, count: usize, from: u16) -> Reached
     }
 }
 
-// Full sectors added behind a full one that was given out last, as long as the sector after it on the disk is free: then that is the lowest, and no search waits for the map byte that the last
-// one changed. Where it starts is handed on.
+// Full sectors added behind the one that was given out last, where that is full too.
 fn put_whole(
     m: Medium,
     image: &mut [u8],
@@ -174,29 +225,24 @@ fn put_whole(
         × Puts (geometryOf m) slot (now (buffer .entry)) (view (geometryOf m) (now (image .entry))) last at (view (geometryOf m) (now (image .exit))) (r .sector) (r .count) ⌝ }
 {
     let room = m.density.room;
-    let size = m.density.size;
-    let mut p = last;
-    let mut i = at;
     if from != last + 1 {
         return come_to(last, at, from);
     }
     if (used(m, image, last) as usize) < room {
         return come_to(last, at, from);
     }
-    let mut here = start(m, last);
-    while (p < 719) & (room <= buffer.len() - i) {
-        let k = p + 1;
-        if !is_free(m, image, k) {
-            return come_to(p, i, k);
-        }
-        let e = i + room;
-        let there = here + size;
-        give_full(m, image, slot, p, k, &buffer[i..e], here, there);
-        p = k;
-        i = e;
-        here = there;
+    let rest = buffer.len() - at;
+    if rest < room {
+        return come_to(last, at, from);
     }
-    come_to(p, i, p + 1)
+    let end = last_within(last, rest / room);
+    let p = chain_free(m, image, slot, last, end, buffer, at);
+    if p == last {
+        return come_to(last, at, from);
+    }
+    let n = p - last;
+    settle(m, image, slot, p, n);
+    come_to(p, at + n as usize * room, p + 1)
 }
 
 // What adding bytes leaves.
@@ -237,17 +283,36 @@ fn put_from(m: Medium, image: &mut [u8], slot: u16, last: u16, buffer: &[u8]) ->
     added(status::SUCCESS, i, p)
 }
 
-// The same. Few bytes mostly find room in the last sector: then there is no loop to prepare for.
+// The same, where the last sector is full and one more has room for all bytes.
+fn put_new(m: Medium, image: &mut [u8], slot: u16, last: u16, buffer: &[u8]) -> Added
+    requires { ⌜ Whole m (now image) × (slot < 64) × (dataSector last ≡ true) × (good (view (geometryOf m) (now image) 360) ≡ true) × (m .density .room ≤ used (geometryOf m) (view (geometryOf m) (now image) last)) × (0 < length (now buffer)) × (length (now buffer) ≤ m .density .room) ⌝ }
+    ensures { λ r. ⌜ (r ≡ putFrom (geometryOf m) (now (buffer .entry)) (view (geometryOf m) (now (image .entry))) slot last 0 .added)
+        × (view (geometryOf m) (now (image .exit)) ≡ putFrom (geometryOf m) (now (buffer .entry)) (view (geometryOf m) (now (image .entry))) slot last 0 .disk) ⌝ }
+{
+    let k = lowest_free(m, image);
+    if k == 0 {
+        return added(status::DISK_FULL, 0, last);
+    }
+    give(m, image, slot, last, k);
+    add_run(m, image, k, buffer);
+    added(status::SUCCESS, buffer.len(), k)
+}
+
+// The same. Few bytes mostly find room in the last sector, or in one more behind it: then there is no loop to prepare for.
 pub fn put_some(m: Medium, image: &mut [u8], slot: u16, last: u16, buffer: &[u8]) -> Added
     requires { ⌜ Whole m (now image) × (slot < 64) × (dataSector last ≡ true) × (good (view (geometryOf m) (now image) 360) ≡ true) ⌝ }
     ensures { λ r. ⌜ (r ≡ putFrom (geometryOf m) (now (buffer .entry)) (view (geometryOf m) (now (image .entry))) slot last 0 .added)
         × (view (geometryOf m) (now (image .exit)) ≡ putFrom (geometryOf m) (now (buffer .entry)) (view (geometryOf m) (now (image .entry))) slot last 0 .disk) ⌝ }
 {
     let room = m.density.room;
+    let had = used(m, image, last) as usize;
     let n = buffer.len();
-    if used(m, image, last) as usize + n <= room {
+    if had + n <= room {
         add_run(m, image, last, buffer);
         return added(status::SUCCESS, n, last);
+    }
+    if (had == room) & (n <= room) {
+        return put_new(m, image, slot, last, buffer);
     }
     put_from(m, image, slot, last, buffer)
 }

@@ -1,5 +1,4 @@
 -- Runs of bytes: the turns of a copy, and what it writes to a sector or reads from it.
-use mathlib.Core.Bool.{true}
 use mathlib.Core.List.{List, [], _∷_}
 use mathlib.Core.Path.{_≡_, refl, ap, _∙_}
 use Prim.Native.Nat.{ℕ, suc, zero, _+_, _≤_, _<_}

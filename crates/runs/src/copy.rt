@@ -40,11 +40,12 @@ fn copy_parts(to: &mut [u8], at: usize, from: &[u8], first: usize, last: usize)
     copy_first(to, at + n, &from[n..end], last);
 }
 
-// The `n` bytes of `from` stored from `at` on. All data bytes of a sector are mostly wanted: 125 of them, or 253.
-pub fn copy_counted(to: &mut [u8], at: usize, from: &[u8], n: usize)
-    requires { ⌜ (at + length (now from) ≤ length (now to)) × (length (now from) ≡ n) ⌝ }
+// The bytes of `from` stored from `at` on. All data bytes of a sector are mostly wanted: 125 of them, or 253.
+pub fn copy(to: &mut [u8], at: usize, from: &[u8])
+    requires { ⌜ at + length (now from) ≤ length (now to) ⌝ }
     ensures { λ _. ⌜ now (to .exit) ≡ sets (now (to .entry)) at (now (from .entry)) ⌝ }
 {
+    let n = from.len();
     if n == Density::SINGLE_ROOM {
         copy_and_last(to, at, from, Density::SINGLE_ROOM - 1);
     } else if n == Density::DOUBLE_ROOM {
@@ -58,14 +59,6 @@ pub fn copy_counted(to: &mut [u8], at: usize, from: &[u8], n: usize)
     } else {
         copy_first(to, at, from, n);
     }
-}
-
-// The bytes of `from` stored from `at` on.
-pub fn copy(to: &mut [u8], at: usize, from: &[u8])
-    requires { ⌜ at + length (now from) ≤ length (now to) ⌝ }
-    ensures { λ _. ⌜ now (to .exit) ≡ sets (now (to .entry)) at (now (from .entry)) ⌝ }
-{
-    copy_counted(to, at, from, from.len());
 }
 
 // The same, where all bytes of a sector are mostly wanted: 128 of them, or 256.

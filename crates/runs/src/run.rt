@@ -1,6 +1,5 @@
 // A run of a sector's bytes, written and read.
 use super::copy::copy;
-use super::copy::copy_counted;
 use image::bytes::start;
 use layout::density::Medium;
 ghost use mathlib.Core.Path.{_≡_};
@@ -17,15 +16,6 @@ pub fn put_run(m: Medium, image: &mut [u8], sector: u16, place: usize, from: &[u
 {
     let first = start(m, sector) + place;
     copy(image, first, from);
-}
-
-// All data bytes of the sector that starts at `at`, written.
-pub fn put_room_at(m: Medium, image: &mut [u8], sector: u16, at: usize, from: &[u8])
-    requires { ⌜ Whole m (now image) × (4 ≤ sector) × (sector ≤ 720) × (at ≡ geometryOf m .start sector) × (length (now from) ≡ m .density .room) ⌝ }
-    ensures { λ _. ⌜ view (geometryOf m) (now (image .exit)) ≡ putRun (view (geometryOf m) (now (image .entry))) sector 0 (now (from .entry)) ⌝ }
-{
-    let room = m.density.room;
-    copy_counted(image, at, from, room);
 }
 
 // Bytes of the sector that starts at `start`, `n` of them from `place` on, stored in the buffer from `at` on.

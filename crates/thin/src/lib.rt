@@ -1,14 +1,12 @@
 // The thin calls: one channel record is lent, to be advanced by a read or a write.
 pub mod by_value;
 
-use by_value::Moved;
 use by_value::read_on;
 use by_value::write_on;
 use layout::Channel;
 use rules::Reply;
 ghost use mathlib.Core.Path.{_≡_};
 ghost use Rattle.rules.specs.Thin.{replyOf, channelAfter, thinGet, thinPut};
-ghost use Rattle.thin.specs.Moves.{moved, told};
 
 // Fills the lent buffer from the lent record on.
 pub fn thin_get(image: &[u8], channel: &mut Channel, buffer: &mut [u8]) -> Reply

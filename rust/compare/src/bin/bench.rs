@@ -382,8 +382,9 @@ fn sector(kind: Kind, command: u8) -> Line {
     };
     Line::new(text, Desk::fresh(kind), move |side, desk| {
         let mut buffer = Bytes::new(0x5a, size);
+        let (image, buffer): (&mut [u8], &mut [u8]) = (&mut desk.image, &mut buffer);
         time(CALLS, transferred(size), || {
-            side.sector(&mut desk.image, DEVICE, UNIT, command, SECTOR, &mut buffer)
+            side.sector(image, DEVICE, UNIT, command, SECTOR, buffer)
         })
     })
 }

@@ -4,7 +4,6 @@ use mathlib.Core.Path.{ap, sym, _∙_}
 use Rattle.layout.proofs.Image.{lawful, view-byte}
 use Rattle.image.proofs.Places.{starts-within}
 use native.Mathlib.Omega.{arith}
-use borrow.Author.Needs.{needs}
 use Rattle.image.proofs.bytes.file_byte_at.Statement.{statement}
 use Rattle.image.proofs.bytes.file_byte_at.Tie as tie
 

@@ -3,7 +3,6 @@ use native.Mathlib.Omega.{arith}
 use Prim.Native.Nat.{_+_}
 use lib.ListN.{getD}
 use mathlib.Core.Path.{ap, sym, _∙_}
-use borrow.Author.Needs.{needs}
 use Rattle.image.proofs.slot.entry_at.Statement.{statement}
 use Rattle.image.proofs.slot.entry_at.Tie as tie
 

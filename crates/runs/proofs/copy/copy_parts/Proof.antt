@@ -1,7 +1,7 @@
 use Rattle.runs.proofs.Runs.{sets-over}
-use lib.ListN.{length, take, drop, length-drop}
-use lib.Seq.{sets, take-all}
-use mathlib.Core.Path.{_≡_, ap, _∙_}
+use lib.ListN.{length, drop, length-drop}
+use lib.Seq.{take-all}
+use mathlib.Core.Path.{_≡_, _∙_}
 use Prim.Native.Nat.{_+_, _-_}
 use native.Mathlib.Omega.{arith}
 use borrow.Author.Needs.{needs}

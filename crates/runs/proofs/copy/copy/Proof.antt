@@ -1,9 +1,10 @@
 use mathlib.Core.Path.{ap, _∙_}
+use lib.ListN.{length}
 use lib.Seq.{sets, take-all}
 use native.Mathlib.Omega.{arith}
 use borrow.Author.Needs.{needs}
-use Rattle.runs.proofs.copy.copy_counted.Statement.{statement}
-use Rattle.runs.proofs.copy.copy_counted.Tie as tie
+use Rattle.runs.proofs.copy.copy.Statement.{statement}
+use Rattle.runs.proofs.copy.copy.Tie as tie
 
 sub-copy-and-last : tie.Need-sub-copy-and-last
 sub-copy-and-last c = search needs
@@ -38,10 +39,10 @@ same-length-3 c = search needs
 returns-3 : tie.Need-returns-3
 returns-3 c =
     let a = c .before .before .before .before .before .before .before .before .args in
-    c .before .before .copy-first .ensures ∙ ap (sets (a .to .now) (a .at)) (take-all (a .n) (a .from .now) (omega arith))
+    c .before .before .copy-first .ensures ∙ ap (sets (a .to .now) (a .at)) (take-all (length (a .from .now)) (a .from .now) (omega arith))
 
-pub copy-counted-spec : {M : Type 1} → statement M
-copy-counted-spec =
+pub copy-spec : {M : Type 1} → statement M
+copy-spec =
     tie.close
     (tie.spec
     sub-copy-and-last
