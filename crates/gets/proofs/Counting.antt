@@ -11,7 +11,7 @@ use native.Mathlib.Omega.{arith}
 use lib.Dec.{leb, eqb}
 use lib.ListN.{length}
 use lib.Seq.{sets}
-use borrow.Author.Tests.{eqb-true, eq-eqb, ne-eqb, le-leb, lt-leb}
+use borrow.Author.Tests.{eqb-true, eq-eqb, ne-eqb, le-leb}
 use Rattle.layout.specs.Basics.{valuesFrom}
 use Rattle.layout.specs.Image.{Disk, Geometry}
 use Rattle.layout.specs.Volume.{dataSector}
@@ -21,15 +21,7 @@ use Rattle.layout.proofs.Data.{data-cases, data-facts}
 use Rattle.gets.specs.Entered.{full, leadsOn, Consecutive, Fills, FillsBehind}
 use Rattle.gets.proofs.Getting.{gets-start, gets-full}
 
--- the two runs of data sectors
-pub data-low : (k : ℕ) → 4 ≤ k → k ≤ 359 → dataSector k ≡ true
-unfolding dataSector
-data-low k a b = rw (le-leb 4 k a, le-leb k 359 b)
-
-pub data-high : (k : ℕ) → 369 ≤ k → k ≤ 719 → dataSector k ≡ true
-unfolding dataSector
-data-high k a b = rw (le-leb 4 k (omega arith), lt-leb k 359 (omega arith), le-leb 369 k a, le-leb k 719 b)
-
+-- the second run of data sectors begins behind the directory
 pub high-least : (k : ℕ) → dataSector k ≡ true → 360 ≤ k → 369 ≤ k
 high-least k e h = go (data-cases k e)
   where

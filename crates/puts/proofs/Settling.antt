@@ -14,7 +14,7 @@ use Rattle.layout.specs.Image.{Sector, Disk, Geometry, put, putRun, putWord}
 use Rattle.layout.specs.Volume.{dataSector, free, bitOff, mapByte, mapBit, freeCount, setUsed, setFreeCount, marked}
 use Rattle.layout.specs.Directory.{count, putEntry, putCount}
 use Rattle.layout.specs.File.{putUsed, putLink, linked, emptied, give}
-use Rattle.layout.proofs.Update.{update-same, update-other, update-update, update-id, put-same}
+use Rattle.layout.proofs.Update.{update-same, update-other, update-update, update-id, pair-read}
 use Rattle.layout.proofs.Data.{data-facts}
 use Rattle.layout.proofs.Map.{used-bit, setFreeCount-byte, setFreeCount-free}
 use Rattle.puts.specs.Run.{addRun, chained, counted, settled, settledFrom}
@@ -80,18 +80,13 @@ module _ (k i j : ℕ) where
   }
 
   module _ (n : i ≢ j) (d : Disk) where
-    -- both bytes written twice, and the number read
+    -- both bytes written twice
     pair-twice : (v w x y : ℕ) → put (put (put (put d k i v) k j w) k i x) k j y ≡ put (put d k i x) k j y
     pair-twice v w x y =
         ap (λ e. put e k j y) (put-comm (put d k i v) k j w i x (λ q. n (sym q)) ∙ ap (λ e. put e k j w) (put-twice d k i v x)) ∙ put-twice (put d k i x) k j w y
 
     write-twice : (v w : ℕ) → write (write d v) w ≡ write d w
     write-twice v w = pair-twice (v % 256) (v / 256 % 256) (w % 256) (w / 256 % 256)
-
-    write-read : (v : ℕ) → read (write d v) ≡ v % 65536
-    write-read v =
-        let e = put d k i (v % 256) in
-        rw (put-same e k j (v / 256 % 256), update-same (e k) j (v / 256 % 256), update-other (e k) j (v / 256 % 256) i n, put-same d k i (v % 256), update-same (d k) i (v % 256)) (omega arith)
 
     -- only the number modulo 65536 counts
     write-mod : (v w : ℕ) → v % 65536 ≡ w % 65536 → write d v ≡ write d w
@@ -121,7 +116,7 @@ more-more s n d =
     let i = s % 8 * 16 + 1 in
     let j = s % 8 * 16 + 2 in
     let c = count d s in
-    ap (λ v. write a i j (more s n d) (v + 1)) (write-read a i j (λ e. omega arith) d (c + n))
+    ap (λ v. write a i j (more s n d) (v + 1)) (pair-read d a i j (c + n) (λ e. omega arith))
     ∙ write-twice a i j (λ e. omega arith) d (c + n) ((c + n) % 65536 + 1)
     ∙ write-mod a i j (λ e. omega arith) d ((c + n) % 65536 + 1) (c + (n + 1)) (omega arith)
 
@@ -134,7 +129,7 @@ unfolding setFreeCount putWord
 fewer-fewer n d h =
     let f = freeCount (d 360) in
     let e : (f - n) % 65536 - 1 ≡ f - (n + 1) = omega arith in
-    ap (λ v. write 360 3 4 (fewer n d) (v - 1)) (write-read 360 3 4 (λ e. omega arith) d (f - n))
+    ap (λ v. write 360 3 4 (fewer n d) (v - 1)) (pair-read d 360 3 4 (f - n) (λ e. omega arith))
     ∙ write-twice 360 3 4 (λ e. omega arith) d (f - n) ((f - n) % 65536 - 1)
     ∙ rw e
 

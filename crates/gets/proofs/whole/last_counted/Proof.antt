@@ -1,5 +1,5 @@
-use Rattle.gets.proofs.Counting.{data-low, data-high, high-least}
-use Rattle.layout.proofs.Data.{data-facts}
+use Rattle.gets.proofs.Counting.{high-least}
+use Rattle.layout.proofs.Data.{data-facts, data-low, data-high}
 use native.Mathlib.Omega.{arith}
 use Rattle.gets.proofs.whole.last_counted.Statement.{statement}
 use Rattle.gets.proofs.whole.last_counted.Tie as tie
