@@ -1,22 +1,14 @@
 //! The two sides of a comparison, behind one trait.
 
+#[cfg(feature = "proved")]
+use hilugsaban::raw;
 use model::fault::Variant;
-use model::{Model, RIGHT};
+use model::{Model, Request, RIGHT};
 
 /// Something that answers the eight calls of the C interface.
 pub trait Side {
     /// One CIO command on a channel of the table.
-    #[allow(clippy::too_many_arguments)]
-    fn cio(
-        &self,
-        image: &mut [u8],
-        table: &mut [u16],
-        channel: u8,
-        command: u8,
-        direction: u8,
-        name: &[u8],
-        buffer: &mut [u8],
-    ) -> u64;
+    fn cio(&self, image: &mut [u8], table: &mut [u16], request: &mut Request) -> u64;
 
     /// Recovery of a deleted file.
     fn recover(&self, image: &mut [u8], slot: u8) -> u64;
@@ -48,22 +40,10 @@ pub trait Side {
     fn header(&self, image: &mut [u8]) -> u64;
 }
 
-/// Hands the eight calls on to the functions of the same names in a module, or to the methods of a value.
+/// Hands the calls that take the same arguments on both sides, all but a CIO command, on to the functions of the same names in
+/// a module, or to the methods of a value.
 macro_rules! hand_on_to {
     ($me:ident => $($to:tt)*) => {
-        fn cio(
-            &$me,
-            image: &mut [u8],
-            table: &mut [u16],
-            channel: u8,
-            command: u8,
-            direction: u8,
-            name: &[u8],
-            buffer: &mut [u8],
-        ) -> u64 {
-            $($to)*cio(image, table, channel, command, direction, name, buffer)
-        }
-
         fn recover(&$me, image: &mut [u8], slot: u8) -> u64 {
             $($to)*recover(image, slot)
         }
@@ -104,6 +84,10 @@ macro_rules! hand_on_to {
 
 /// The model, right or with a fault.
 impl<V: Variant> Side for Model<V> {
+    fn cio(&self, image: &mut [u8], table: &mut [u16], request: &mut Request) -> u64 {
+        (*self).cio(image, table, request)
+    }
+
     hand_on_to!(self => (*self).);
 }
 
@@ -113,7 +97,26 @@ pub struct Proved;
 
 #[cfg(feature = "proved")]
 impl Side for Proved {
-    hand_on_to!(self => hilugsaban::raw::);
+    fn cio(&self, image: &mut [u8], table: &mut [u16], request: &mut Request) -> u64 {
+        // Taken apart and put together by name, so that a field that either type gets cannot be forgotten here.
+        let Request {
+            channel,
+            command,
+            direction,
+            name,
+            buffer,
+        } = request;
+        let mut request = raw::Request {
+            channel: *channel,
+            command: *command,
+            direction: *direction,
+            name,
+            buffer,
+        };
+        raw::cio(image, table, &mut request)
+    }
+
+    hand_on_to!(self => raw::);
 }
 
 /// The independent model.

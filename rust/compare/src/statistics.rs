@@ -5,7 +5,7 @@ use std::fmt::{self, Display, Formatter};
 
 use model::image::Kind;
 
-use crate::step::{Call, Step};
+use crate::step::{Call, Cio, Step};
 
 /// Counts of answers by kind of call and status, and of calls by kind of image.
 #[derive(Default)]
@@ -42,27 +42,7 @@ impl Statistics {
 /// The kind of a call, for the table.
 fn kind(call: &Call) -> &'static str {
     match call {
-        Call::Cio {
-            command: 3,
-            direction: 4,
-            ..
-        } => "open 4",
-        Call::Cio {
-            command: 3,
-            direction: 8,
-            ..
-        } => "open 8",
-        Call::Cio { command: 3, .. } => "open, other direction",
-        Call::Cio { command: 7, .. } => "get",
-        Call::Cio { command: 11, .. } => "put",
-        Call::Cio { command: 12, .. } => "close",
-        Call::Cio { command: 13, .. } => "status",
-        Call::Cio { command: 32, .. } => "rename",
-        Call::Cio { command: 33, .. } => "delete",
-        Call::Cio { command: 35, .. } => "lock",
-        Call::Cio { command: 36, .. } => "unlock",
-        Call::Cio { command: 254, .. } => "format",
-        Call::Cio { .. } => "other commands",
+        Call::Cio(cio) => kind_of_cio(cio),
         Call::Recover { .. } => "recover",
         Call::Sector { .. } => "sector",
         Call::Show { .. } => "show",
@@ -70,6 +50,25 @@ fn kind(call: &Call) -> &'static str {
         Call::ThinPut { .. } => "thin put",
         Call::Name { .. } => "name",
         Call::Header => "header",
+    }
+}
+
+/// A CIO command by its number, an open by its direction too.
+fn kind_of_cio(cio: &Cio) -> &'static str {
+    match (cio.command, cio.direction) {
+        (3, 4) => "open 4",
+        (3, 8) => "open 8",
+        (3, _) => "open, other direction",
+        (7, _) => "get",
+        (11, _) => "put",
+        (12, _) => "close",
+        (13, _) => "status",
+        (32, _) => "rename",
+        (33, _) => "delete",
+        (35, _) => "lock",
+        (36, _) => "unlock",
+        (254, _) => "format",
+        _ => "other commands",
     }
 }
 

@@ -5,6 +5,7 @@
 use std::fmt::{self, Display, Formatter};
 
 use model::image::Kind;
+use model::Request;
 
 /// Words of a table of channels.
 pub const TABLE: usize = 40;
@@ -45,16 +46,41 @@ impl Buffer {
     }
 }
 
+/// A CIO command: what it asks for, and the bytes that it is lent.
+#[derive(Clone, Debug, PartialEq, Eq)]
+pub struct Cio {
+    pub channel: u8,
+    pub command: u8,
+    pub direction: u8,
+    pub name: Vec<u8>,
+    pub buffer: Buffer,
+}
+
+impl Cio {
+    /// A command that needs neither direction nor name nor buffer.
+    pub fn new(channel: u8, command: u8) -> Cio {
+        Cio {
+            channel,
+            command,
+            direction: 0,
+            name: Vec::new(),
+            buffer: Buffer::Fill(0, 0),
+        }
+    }
+
+    /// What a side is asked, with the bytes that it is lent in this place.
+    pub fn request<'a>(&'a self, buffer: &'a mut [u8]) -> Request<'a> {
+        Request::new(self.channel, self.command)
+            .direction(self.direction)
+            .name(&self.name)
+            .buffer(buffer)
+    }
+}
+
 /// A call of the C interface.
 #[derive(Clone, Debug, PartialEq, Eq)]
 pub enum Call {
-    Cio {
-        channel: u8,
-        command: u8,
-        direction: u8,
-        name: Vec<u8>,
-        buffer: Buffer,
-    },
+    Cio(Cio),
     Recover {
         slot: u8,
     },
@@ -88,7 +114,7 @@ impl Call {
     /// The lent bytes, the eleven of a name included.
     pub fn buffer(&self) -> Option<&Buffer> {
         match self {
-            Call::Cio { buffer, .. }
+            Call::Cio(Cio { buffer, .. })
             | Call::Sector { buffer, .. }
             | Call::ThinGet { buffer, .. }
             | Call::ThinPut { buffer, .. }
@@ -109,7 +135,7 @@ impl Call {
     pub fn with_buffer(&self, other: Buffer) -> Call {
         let mut call = self.clone();
         match &mut call {
-            Call::Cio { buffer, .. }
+            Call::Cio(Cio { buffer, .. })
             | Call::Sector { buffer, .. }
             | Call::ThinGet { buffer, .. }
             | Call::ThinPut { buffer, .. }
@@ -187,13 +213,13 @@ impl Display for Step {
 impl Display for Call {
     fn fmt(&self, out: &mut Formatter) -> fmt::Result {
         match self {
-            Call::Cio {
+            Call::Cio(Cio {
                 channel,
                 command,
                 direction,
                 name,
                 ..
-            } => write!(out, "cio {channel} {command} {direction} {}", quoted(name)),
+            }) => write!(out, "cio {channel} {command} {direction} {}", quoted(name)),
             Call::Recover { slot } => write!(out, "recover {slot}"),
             Call::Sector {
                 device,
@@ -254,15 +280,12 @@ mod tests {
     #[test]
     fn lines_of_the_shell() {
         let cio = |name: &[u8], buffer| {
-            let name = name.to_vec();
-            Step::from(Call::Cio {
-                channel: 1,
-                command: 11,
-                direction: 0,
-                name,
+            let cio = Cio {
+                name: name.to_vec(),
                 buffer,
-            })
-            .to_string()
+                ..Cio::new(1, 11)
+            };
+            Step::from(Call::Cio(cio)).to_string()
         };
         assert_eq!(
             cio(b"D:A\x9b", Buffer::Fill(0, 9)),

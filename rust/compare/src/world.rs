@@ -159,13 +159,7 @@ impl World {
         let mut buffer = call.buffer().map(Buffer::bytes).unwrap_or_default();
         let mut words = call.words().to_vec();
         let answer = match *call {
-            Call::Cio {
-                channel,
-                command,
-                direction,
-                ref name,
-                ..
-            } => side.cio(image, table, channel, command, direction, name, &mut buffer),
+            Call::Cio(ref cio) => side.cio(image, table, &mut cio.request(&mut buffer)),
             Call::Recover { slot } => side.recover(image, slot),
             Call::Sector {
                 device,

@@ -6,7 +6,7 @@ use compare::run::run;
 use compare::shrink::shortest;
 use compare::side::MODEL;
 use compare::statistics::Statistics;
-use compare::step::{Buffer, Call, Step};
+use compare::step::{Call, Cio, Step};
 use compare::world::World;
 use model::fault::Fault;
 use model::image::Kind;
@@ -85,13 +85,10 @@ fn a_difference_in_the_image_is_a_sector_and_a_byte() {
 
     let faulty = Model(Fault::FormatClearsHalves);
     let mut pair = Pair::new(("model", MODEL), ("faulty model", &faulty));
-    let format = Call::Cio {
-        channel: 0,
-        command: 254,
-        direction: 0,
+    let format = Call::Cio(Cio {
         name: b"D:\x9b".to_vec(),
-        buffer: Buffer::Fill(0, 0),
-    };
+        ..Cio::new(0, 254)
+    });
     let steps = [
         Step::Fresh(Kind::AtrDouble),
         poke(720, 255, 7),

@@ -1,4 +1,7 @@
 //! The directory of a disk, read through sector calls.
+//!
+//! Slots are read and the volume table is probed by hand until there are calls for it: request P3 (the directory as a file) and
+//! request P7 (look at a stranger's disk) bring them.
 
 use crate::{
     contents::read_to_end,

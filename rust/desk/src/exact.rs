@@ -30,8 +30,14 @@ impl Exact<'_> {
     pub fn carry_out(&mut self, verb: &str, arguments: &[Word]) -> Understood {
         match (verb, arguments) {
             ("cio", [channel, command, direction, name, buffer]) => {
-                let block = [value(channel)?, value(command)?, value(direction)?];
-                self.cio(block, &name.bytes, buffer)
+                // In the order of the line, so that the first number that is wrong is the one named.
+                let request = raw::Request::new(value(channel)?, value(command)?);
+                let request = raw::Request {
+                    direction: value(direction)?,
+                    name: &name.bytes,
+                    ..request
+                };
+                self.cio(request, buffer)
             }
             ("sector", [device, unit, command, sector, buffer]) => {
                 let block = [value(device)?, value(unit)?, value(command)?];
@@ -69,16 +75,16 @@ impl Exact<'_> {
         answer
     }
 
-    /// `block` is channel, command and direction.
-    fn cio(&mut self, block: [u8; 3], name: &[u8], lent: &Word) -> Understood {
-        let [channel, command, direction] = block;
+    fn cio(&mut self, request: raw::Request, lent: &Word) -> Understood {
         let mut buffer = buffer(lent)?;
-        let word = self.lend(|image, table| {
-            raw::cio(image, table, channel, command, direction, name, &mut buffer)
-        });
+        let mut request = raw::Request {
+            buffer: &mut buffer,
+            ..request
+        };
+        let word = self.lend(|image, table| raw::cio(image, table, &mut request));
         self.answer(word)?;
-        if command == command::GET {
-            dump(&buffer, self.out)?;
+        if request.command == command::GET {
+            dump(request.buffer, self.out)?;
         }
         Ok(())
     }

@@ -202,15 +202,14 @@ impl<B: AsMut<[u8]>> Disk<B> {
         name: &[u8],
         buffer: &mut [u8],
     ) -> Answer {
-        Answer::from_word(raw::cio(
-            self.image.as_mut(),
-            self.table.words_mut(),
-            channel,
-            command,
+        let mut request = raw::Request {
             direction,
             name,
             buffer,
-        ))
+            ..raw::Request::new(channel, command)
+        };
+        let (image, table) = (self.image.as_mut(), self.table.words_mut());
+        Answer::from_word(raw::cio(image, table, &mut request))
     }
 
     /// Opens a file on a closed channel: to read a standing one, or to write a new one or a standing one anew.

@@ -58,17 +58,37 @@ mod archive {
     }
 }
 
+/// What a CIO command asks for. Image and table are lent beside it.
+#[derive(Debug, Default)]
+pub struct Request<'a> {
+    /// The channel's place in the table.
+    pub channel: u8,
+    /// The command's number, see [`command`](crate::command).
+    pub command: u8,
+    /// What an open is for. No other command looks at it.
+    pub direction: u8,
+    /// A name with its device and its ending byte, for the commands that take one.
+    pub name: &'a [u8],
+    /// The bytes of a put, or the place for those of a get. Only a get changes it.
+    pub buffer: &'a mut [u8],
+}
+
+impl Request<'_> {
+    /// A command that needs neither direction nor name nor buffer. One that does is written from it, as in
+    /// `Request { name, ..Request::new(channel, command) }`, which stays as it is when a request gets one more field.
+    #[inline]
+    pub fn new(channel: u8, command: u8) -> Self {
+        Request {
+            channel,
+            command,
+            ..Request::default()
+        }
+    }
+}
+
 /// A CIO command on one channel of the table.
 #[inline]
-pub fn cio(
-    image: &mut [u8],
-    table: &mut [u16],
-    channel: u8,
-    command: u8,
-    direction: u8,
-    name: &[u8],
-    buffer: &mut [u8],
-) -> u64 {
+pub fn cio(image: &mut [u8], table: &mut [u16], request: &mut Request) -> u64 {
     // SAFETY: each part is a reference's pointer and length; those that are written are borrowed for this call alone.
     unsafe {
         archive::dos_cio(
@@ -76,13 +96,13 @@ pub fn cio(
             image.len(),
             table.as_mut_ptr(),
             table.len(),
-            channel,
-            command,
-            direction,
-            name.as_ptr(),
-            name.len(),
-            buffer.as_mut_ptr(),
-            buffer.len(),
+            request.channel,
+            request.command,
+            request.direction,
+            request.name.as_ptr(),
+            request.name.len(),
+            request.buffer.as_mut_ptr(),
+            request.buffer.len(),
         )
     }
 }

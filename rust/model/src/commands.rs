@@ -11,12 +11,45 @@ use crate::image::{clear_header, on_disk};
 use crate::status::{Outcome, Status};
 use crate::Model;
 
-/// What one CIO call asks for, apart from what it is lent.
-pub(crate) struct Request<'a> {
+/// What one CIO call asks for, the buffer that it is lent included.
+#[derive(Debug)]
+pub struct Request<'a> {
     pub channel: u8,
     pub command: u8,
+    /// Which way a file is opened.
     pub direction: u8,
+    /// With its device and its ending byte.
     pub name: &'a [u8],
+    /// The bytes of a put, or the place for those of a get.
+    pub buffer: &'a mut [u8],
+}
+
+impl<'a> Request<'a> {
+    /// A command that needs neither direction nor name nor buffer: 0, and no bytes.
+    pub fn new(channel: u8, command: u8) -> Request<'a> {
+        Request {
+            channel,
+            command,
+            direction: 0,
+            name: &[],
+            buffer: &mut [],
+        }
+    }
+
+    /// The same with a direction.
+    pub fn direction(self, direction: u8) -> Request<'a> {
+        Request { direction, ..self }
+    }
+
+    /// The same with a name.
+    pub fn name(self, name: &'a [u8]) -> Request<'a> {
+        Request { name, ..self }
+    }
+
+    /// The same with a buffer.
+    pub fn buffer(self, buffer: &'a mut [u8]) -> Request<'a> {
+        Request { buffer, ..self }
+    }
 }
 
 /// The commands listed.
@@ -82,14 +115,13 @@ impl<V: Variant> Model<V> {
         self,
         image: &mut [u8],
         table: &mut [u16],
-        request: Request,
-        buffer: &mut [u8],
+        request: &mut Request,
     ) -> Outcome {
         let table = as_table(table)?;
         let disk = self
             .disk_mut(image)
             .map_err(|refusal| self.image_refusal(refusal, request.channel))?;
-        let outcome = on_disk!(disk, disk => self.run_command(disk, table, &request, buffer));
+        let outcome = on_disk!(disk, disk => self.run_command(disk, table, request));
         if self.wrong(Fault::FormatClearsHeader)
             && Command::of(request.command) == Ok(Command::Format)
             && outcome.is_ok()
@@ -118,8 +150,7 @@ impl<V: Variant> Model<V> {
         self,
         disk: &mut impl Density,
         table: &mut Table,
-        request: &Request,
-        buffer: &mut [u8],
+        request: &mut Request,
     ) -> Outcome {
         let number = usize::from(request.channel);
         let record = *table.get(number).ok_or(Status::NoSuchChannel)?;
@@ -129,8 +160,8 @@ impl<V: Variant> Model<V> {
         let mut channel = before;
         let outcome = match command {
             Command::Open => self.open(disk, table, request, &mut channel),
-            Command::Get => self.get_from(disk, &mut channel, buffer),
-            Command::Put => self.put_to(disk, &mut channel, buffer),
+            Command::Get => self.get_from(disk, &mut channel, request.buffer),
+            Command::Put => self.put_to(disk, &mut channel, request.buffer),
             Command::Close => self.close(disk, &mut channel),
             Command::Status => self.status(disk, request.name),
             Command::Rename => self.rename(disk, table, request.name),

@@ -19,17 +19,23 @@
 //! | `recovery`, `sectors`, `showing` | Recovery, Sectors, Showing |
 //! | [`status`] | the status numbers |
 //!
-//! There are eight calls, those of the C interface with slices in place of pointers and lengths:
+//! There are eight calls, those of the C interface with slices in place of pointers and lengths,
+//! and with a [`Request`] in place of all that a CIO command asks for:
 //! [`cio`], [`recover`], [`sector`], [`show`], [`thin_get`], [`thin_put`], [`name`], [`header`].
 //! Each answers one number, status + 256 * count.
 //!
 //! ```
+//! use model::{cio, Request};
+//!
 //! let mut image = vec![0; 92_160];
 //! let mut table = [0; 40];
-//! assert_eq!(model::cio(&mut image, &mut table, 0, 254, 0, b"D:\x9b", &mut []), 1);
-//! assert_eq!(model::cio(&mut image, &mut table, 0, 3, 8, b"D:A\x9b", &mut []), 1);
+//! let mut format = Request::new(0, 254).name(b"D:\x9b");
+//! assert_eq!(cio(&mut image, &mut table, &mut format), 1);
+//! let mut open = Request::new(0, 3).direction(8).name(b"D:A\x9b");
+//! assert_eq!(cio(&mut image, &mut table, &mut open), 1);
 //! let mut bytes = *b"HELLO";
-//! assert_eq!(model::cio(&mut image, &mut table, 0, 11, 0, b"", &mut bytes), 1 + 256 * 5);
+//! let mut put = Request::new(0, 11).buffer(&mut bytes);
+//! assert_eq!(cio(&mut image, &mut table, &mut put), 1 + 256 * 5);
 //! ```
 //!
 //! [`Model`] has a parameter that makes it wrong in one chosen way; see [`fault`].
@@ -52,6 +58,7 @@ pub mod status;
 mod transfer;
 pub mod volume;
 
+pub use commands::Request;
 use fault::{Right, Variant};
 use status::number;
 
@@ -66,25 +73,9 @@ pub const RIGHT: Model<Right> = Model(Right);
 /// The calls. Each is made as a call, as that of a library is, also where the compiler sees its inside: the benchmark measures both sides alike.
 impl<V: Variant> Model<V> {
     /// Carries out one CIO command on a channel of the table.
-    #[allow(clippy::too_many_arguments)]
     #[inline(never)]
-    pub fn cio(
-        self,
-        image: &mut [u8],
-        table: &mut [u16],
-        channel: u8,
-        command: u8,
-        direction: u8,
-        name: &[u8],
-        buffer: &mut [u8],
-    ) -> u64 {
-        let request = commands::Request {
-            channel,
-            command,
-            direction,
-            name,
-        };
-        number(self.run_cio(image, table, request, buffer))
+    pub fn cio(self, image: &mut [u8], table: &mut [u16], request: &mut Request) -> u64 {
+        number(self.run_cio(image, table, request))
     }
 
     /// Takes back a deleted file; the count is the number of its sectors.
@@ -149,16 +140,8 @@ impl<V: Variant> Model<V> {
 }
 
 /// [`Model::cio`] without a fault.
-pub fn cio(
-    image: &mut [u8],
-    table: &mut [u16],
-    channel: u8,
-    command: u8,
-    direction: u8,
-    name: &[u8],
-    buffer: &mut [u8],
-) -> u64 {
-    RIGHT.cio(image, table, channel, command, direction, name, buffer)
+pub fn cio(image: &mut [u8], table: &mut [u16], request: &mut Request) -> u64 {
+    RIGHT.cio(image, table, request)
 }
 
 /// [`Model::recover`] without a fault.

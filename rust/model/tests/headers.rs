@@ -1,6 +1,7 @@
 //! Request P13: which images are served, the header of an ATR image and its writer.
 
 use model::image::Kind;
+use model::Request;
 
 /// The two kinds of ATR images, each with its length and the header that agrees with it.
 const ATR: [(Kind, usize, [u8; 7]); 2] = [
@@ -16,12 +17,16 @@ const ATR: [(Kind, usize, [u8; 7]); 2] = [
     ),
 ];
 
+fn format<'a>() -> Request<'a> {
+    Request::new(0, 254).name(b"D:\x9b")
+}
+
 /// What every call answers that is refused for its image, a showing apart. All else that could be
 /// refused is: a channel above 7, another device, a slot above 63, closed records.
 fn refusals(image: &mut [u8]) -> [u64; 6] {
     [
-        model::cio(image, &mut [0; 40], 8, 0, 0, b"", &mut []),
-        model::cio(image, &mut [0; 40], 0, 254, 0, b"D:\x9b", &mut []),
+        model::cio(image, &mut [0; 40], &mut Request::new(8, 0)),
+        model::cio(image, &mut [0; 40], &mut format()),
         model::recover(image, 64),
         model::sector(image, 0, 0, 0, 0, &mut []),
         model::thin_get(image, &mut [0; 5], &mut []),
@@ -108,8 +113,8 @@ fn row_203_stands_before_205() {
 fn row_255_stands_before_205() {
     let mut image = Kind::AtrDouble.fresh();
     image[0] = 0;
-    let cio = model::cio(&mut image, &mut [0; 39], 0, 13, 0, b"D:A\x9b", &mut []);
-    assert_eq!(cio, 255);
+    let mut status = Request::new(0, 13).name(b"D:A\x9b");
+    assert_eq!(model::cio(&mut image, &mut [0; 39], &mut status), 255);
     assert_eq!(model::thin_get(&image, &mut [3; 5], &mut []), 255);
     assert_eq!(model::thin_put(&mut image, &mut [0; 6], &[]), 255);
 }
@@ -146,8 +151,7 @@ fn format_leaves_the_header() {
     for (kind, ..) in ATR {
         let mut image = kind.fresh();
         image[7..].fill(0xa5);
-        let format = model::cio(&mut image, &mut [0; 40], 0, 254, 0, b"D:\x9b", &mut []);
-        assert_eq!(format, 1);
+        assert_eq!(model::cio(&mut image, &mut [0; 40], &mut format()), 1);
         assert_eq!(image[7..16], [0xa5; 9]);
         assert!(image[..7] == kind.fresh()[..7] && image[16..] == kind.fresh()[16..]);
     }
@@ -170,33 +174,16 @@ fn raw_and_atr_single_are_one_density() {
     let mut atr = Kind::AtrSingle.fresh();
     let (mut raw_table, mut atr_table) = ([0; 40], [0; 40]);
     let mut bytes: Vec<u8> = (0..10_000).map(|place| (place % 251) as u8).collect();
-    let calls: [(u8, u8, &[u8], usize); 5] = [
-        (3, 8, b"D:A\x9b", 0),
-        (11, 0, b"", bytes.len()),
-        (12, 0, b"", 0),
-        (32, 0, b"D:A,B\x9b", 0),
-        (33, 0, b"D:B\x9b", 0),
+    let calls = [
+        Request::new(0, 3).direction(8).name(b"D:A\x9b"),
+        Request::new(0, 11).buffer(&mut bytes),
+        Request::new(0, 12),
+        Request::new(0, 32).name(b"D:A,B\x9b"),
+        Request::new(0, 33).name(b"D:B\x9b"),
     ];
-    for (command, direction, name, length) in calls {
-        let buffer = &mut bytes[..length];
-        let on_raw = model::cio(
-            &mut raw,
-            &mut raw_table,
-            0,
-            command,
-            direction,
-            name,
-            buffer,
-        );
-        let on_atr = model::cio(
-            &mut atr,
-            &mut atr_table,
-            0,
-            command,
-            direction,
-            name,
-            buffer,
-        );
+    for mut request in calls {
+        let on_raw = model::cio(&mut raw, &mut raw_table, &mut request);
+        let on_atr = model::cio(&mut atr, &mut atr_table, &mut request);
         assert_eq!((on_raw, on_raw % 256), (on_atr, 1));
         assert!(raw == atr[16..] && raw_table == atr_table);
     }

@@ -21,6 +21,7 @@ use compare::side::{Side, LIBRARY, LIBRARY_NAME, MODEL};
 use compare::step::TABLE;
 use model::disk::DATA_SECTORS;
 use model::image::Kind;
+use model::Request;
 
 const REPETITIONS: usize = 301;
 
@@ -111,6 +112,17 @@ impl DerefMut for Bytes {
     }
 }
 
+/// A command on channel 0, the one that every call takes. What is measured is the call, so a request is put together before
+/// the time is taken.
+fn request<'a>(command: u8) -> Request<'a> {
+    Request::new(0, command)
+}
+
+/// An open of a file.
+fn open(direction: u8, name: &[u8]) -> Request<'_> {
+    request(OPEN).direction(direction).name(name)
+}
+
 /// An image and a table.
 struct Desk {
     kind: Kind,
@@ -141,38 +153,23 @@ impl Desk {
         self.table = other.table;
     }
 
-    /// A call on channel 0.
-    fn cio(
-        &mut self,
-        side: &dyn Side,
-        command: u8,
-        direction: u8,
-        name: &[u8],
-        buffer: &mut [u8],
-    ) -> u64 {
-        side.cio(
-            &mut self.image,
-            &mut self.table,
-            0,
-            command,
-            direction,
-            name,
-            buffer,
-        )
+    /// A CIO command.
+    fn cio(&mut self, side: &dyn Side, request: &mut Request) -> u64 {
+        side.cio(&mut self.image, &mut self.table, request)
     }
 
-    /// A call of the model that must succeed.
-    fn with(mut self, command: u8, direction: u8, name: &[u8], buffer: &mut [u8]) -> Desk {
-        let answer = self.cio(MODEL, command, direction, name, buffer);
+    /// A CIO command of the model that must succeed.
+    fn with(mut self, mut request: Request) -> Desk {
+        let answer = self.cio(MODEL, &mut request);
         assert_eq!(answer % 256, 1, "the disk cannot be set up");
         self
     }
 
     /// A file of that many bytes, closed.
     fn with_file(self, name: &[u8], length: usize) -> Desk {
-        self.with(OPEN, WRITE, name, &mut [])
-            .with(PUT, 0, b"", &mut vec![0x5a; length])
-            .with(CLOSE, 0, b"", &mut [])
+        self.with(open(WRITE, name))
+            .with(request(PUT).buffer(&mut vec![0x5a; length]))
+            .with(request(CLOSE))
     }
 
     /// A file of all sectors.
@@ -189,15 +186,15 @@ impl Desk {
             for (table, slot) in [(&mut first, 0), (&mut second, 1)] {
                 self.table = *table;
                 if table[0] == 0 {
-                    self = self.with(OPEN, WRITE, &file_name(slot), &mut []);
+                    self = self.with(open(WRITE, &file_name(slot)));
                 }
-                self = self.with(PUT, 0, b"", &mut bytes);
+                self = self.with(request(PUT).buffer(&mut bytes));
                 *table = self.table;
             }
         }
         for table in [first, second] {
             self.table = table;
-            self = self.with(CLOSE, 0, b"", &mut []);
+            self = self.with(request(CLOSE));
         }
         self
     }
@@ -272,10 +269,10 @@ fn bytes(length: usize) -> String {
 fn opened(kind: Kind, command: u8) -> (&'static str, Desk) {
     let desk = Desk::fresh(kind);
     if command == PUT {
-        ("put", desk.with(OPEN, WRITE, &file_name(0), &mut []))
+        ("put", desk.with(open(WRITE, &file_name(0))))
     } else {
         let desk = desk.with_whole_file();
-        ("get", desk.with(OPEN, READ, &file_name(0), &mut []))
+        ("get", desk.with(open(READ, &file_name(0))))
     }
 }
 
@@ -287,10 +284,13 @@ fn transfers(kind: Kind, command: u8, length: usize, thin: bool) -> Line {
     let text = format!("{manner}{verb} of {}", bytes(length));
     Line::new(text, start, move |side, desk| {
         let mut buffer = Bytes::new(0x5a, length);
+        let mut request = request(command).buffer(&mut buffer);
         time(calls, transferred(length), || match (thin, command) {
-            (false, _) => desk.cio(side, command, 0, b"", &mut buffer),
-            (true, PUT) => side.thin_put(&mut desk.image, &mut desk.table[..RECORD], &mut buffer),
-            (true, _) => side.thin_get(&mut desk.image, &mut desk.table[..RECORD], &mut buffer),
+            (false, _) => desk.cio(side, &mut request),
+            (true, PUT) => {
+                side.thin_put(&mut desk.image, &mut desk.table[..RECORD], request.buffer)
+            }
+            (true, _) => side.thin_get(&mut desk.image, &mut desk.table[..RECORD], request.buffer),
         })
     })
 }
@@ -300,13 +300,12 @@ fn get_scattered(kind: Kind) -> Line {
     let length = kind.data() * SCATTERED;
     let start = Desk::fresh(kind)
         .with_two_files()
-        .with(OPEN, READ, &file_name(0), &mut []);
+        .with(open(READ, &file_name(0)));
     let text = format!("get of {length} bytes, every other sector");
     Line::new(text, start, move |side, desk| {
         let mut buffer = Bytes::new(0, length);
-        time(1, transferred(length), || {
-            desk.cio(side, GET, 0, b"", &mut buffer)
-        })
+        let mut get = request(GET).buffer(&mut buffer);
+        time(1, transferred(length), || desk.cio(side, &mut get))
     })
 }
 
@@ -315,9 +314,10 @@ fn open_last(kind: Kind) -> Line {
     let start = Desk::fresh(kind).with_64_files(file_name);
     Line::new("open of the 64th file", start, |side, desk| {
         let name = file_name(63);
+        let mut open = open(READ, &name);
         time(CALLS, SUCCESS, || {
             desk.table[0] = 0;
-            desk.cio(side, OPEN, READ, &name, &mut [])
+            desk.cio(side, &mut open)
         })
     })
 }
@@ -326,9 +326,8 @@ fn open_last(kind: Kind) -> Line {
 fn status_of_none() -> Line {
     let start = Desk::fresh(Kind::Raw).with_64_files(file_name);
     Line::new("status of a name not there", start, |side, desk| {
-        time(CALLS, 170, || {
-            desk.cio(side, STATUS, 0, b"D:NOTTHERE\x9b", &mut [])
-        })
+        let mut status = request(STATUS).name(b"D:NOTTHERE\x9b");
+        time(CALLS, 170, || desk.cio(side, &mut status))
     })
 }
 
@@ -338,7 +337,8 @@ fn status_of_last(kind: Kind, names: &str, name: fn(u8) -> Vec<u8>) -> Line {
     let text = format!("status of the 64th file, names {names}");
     Line::new(text, start, move |side, desk| {
         let name = name(63);
-        time(CALLS, SUCCESS, || desk.cio(side, STATUS, 0, &name, &mut []))
+        let mut status = request(STATUS).name(&name);
+        time(CALLS, SUCCESS, || desk.cio(side, &mut status))
     })
 }
 
@@ -346,7 +346,8 @@ fn status_of_last(kind: Kind, names: &str, name: fn(u8) -> Vec<u8>) -> Line {
 fn delete_first(text: String, start: Desk) -> Line {
     Line::new(text, start, |side, desk| {
         let name = file_name(0);
-        time(1, SUCCESS, || desk.cio(side, DELETE, 0, &name, &mut []))
+        let mut delete = request(DELETE).name(&name);
+        time(1, SUCCESS, || desk.cio(side, &mut delete))
     })
 }
 
@@ -365,7 +366,7 @@ fn delete_scattered(kind: Kind) -> Line {
 /// Recovery of a file of all 707 sectors.
 fn recover_whole(kind: Kind) -> Line {
     let start = Desk::fresh(kind).with_whole_file();
-    let start = start.with(DELETE, 0, &file_name(0), &mut []);
+    let start = start.with(request(DELETE).name(&file_name(0)));
     let answer = SUCCESS + 256 * u64::from(DATA_SECTORS);
     Line::new("recovery of 707 sectors", start, move |side, desk| {
         time(1, answer, || side.recover(&mut desk.image, 0))
@@ -393,7 +394,8 @@ fn sector(kind: Kind, command: u8) -> Line {
 fn format_whole(kind: Kind) -> Line {
     let start = Desk::fresh(kind).with_whole_file();
     Line::new("format", start, |side, desk| {
-        time(1, SUCCESS, || desk.cio(side, FORMAT, 0, b"D:\x9b", &mut []))
+        let mut format = request(FORMAT).name(b"D:\x9b");
+        time(1, SUCCESS, || desk.cio(side, &mut format))
     })
 }
 
@@ -464,12 +466,13 @@ fn measure_copies(kind: Kind, repetitions: usize) -> [f64; 2] {
     let table = desk.table;
     let length = whole_disk(kind);
     let mut buffer = Bytes::new(0, length);
+    let mut get = request(GET).buffer(&mut buffer);
     medians(repetitions, [Way::Get, Way::Copies], |way| {
         desk.table = table;
         time(1, transferred(length), || match way {
-            Way::Get => desk.cio(LIBRARY, GET, 0, b"", &mut buffer),
+            Way::Get => desk.cio(LIBRARY, &mut get),
             Way::Copies => {
-                copy_sectors(kind, &desk.image, &mut buffer);
+                copy_sectors(kind, &desk.image, get.buffer);
                 transferred(length)
             }
         })

@@ -3,7 +3,7 @@
 use model::directory::{DELETED, SLOTS};
 use model::disk::{is_data_sector, SECTORS};
 
-use crate::step::{Buffer, Call};
+use crate::step::{Buffer, Call, Cio};
 use crate::world::World;
 
 use super::Generator;
@@ -115,13 +115,11 @@ impl Generator {
                 words: vec![0; 5],
                 buffer,
             },
-            _ => Call::Cio {
-                channel: 8,
-                command: self.random.byte(),
+            _ => Call::Cio(Cio {
                 direction: 4,
-                name: Vec::new(),
                 buffer,
-            },
+                ..Cio::new(8, self.random.byte())
+            }),
         }
     }
 
@@ -129,12 +127,14 @@ impl Generator {
     pub(super) fn format_anew(&mut self, world: &World) {
         let name = self.device_alone(world);
         for channel in (0..8).filter(|&channel| world.record(channel.into())[0] != 0) {
-            let close = self.command(Kind::Close);
-            self.planned
-                .push_back(plain_cio(channel, close, Vec::new()).into());
+            let close = Cio::new(channel, self.command(Kind::Close));
+            self.planned.push_back(Call::Cio(close).into());
         }
-        let format = self.command(Kind::Format);
-        self.planned.push_back(plain_cio(0, format, name).into());
+        let format = Cio {
+            name,
+            ..Cio::new(0, self.command(Kind::Format))
+        };
+        self.planned.push_back(Call::Cio(format).into());
     }
 
     /// A CIO command. What it does not need is random.
@@ -162,13 +162,12 @@ impl Generator {
             _ if self.random.chance(900) => Buffer::Fill(0, 0),
             _ => self.get_buffer(),
         };
-        Call::Cio {
-            channel,
-            command,
+        Call::Cio(Cio {
             direction,
             name,
             buffer,
-        }
+            ..Cio::new(channel, command)
+        })
     }
 
     /// The command's number, or one that is not listed.
@@ -344,17 +343,6 @@ impl Generator {
             name,
             eleven: Buffer::Bytes(self.random.bytes(length)),
         }
-    }
-}
-
-/// A CIO command that needs neither direction nor buffer.
-fn plain_cio(channel: u8, command: u8, name: Vec<u8>) -> Call {
-    Call::Cio {
-        channel,
-        command,
-        direction: 0,
-        name,
-        buffer: Buffer::Fill(0, 0),
     }
 }
 

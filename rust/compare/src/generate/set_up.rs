@@ -2,7 +2,7 @@
 
 use model::disk::DATA_SECTORS;
 
-use crate::step::{Buffer, Call, Step};
+use crate::step::{Buffer, Call, Cio};
 
 use super::Generator;
 
@@ -112,13 +112,12 @@ impl Generator {
 
     fn plan_cio(&mut self, command: u8, direction: u8, text: &[u8], buffer: Buffer) {
         let name = [b"D:", text, b"\x9b"].concat();
-        let call = Call::Cio {
-            channel: CHANNEL,
-            command,
+        let cio = Cio {
             direction,
             name,
             buffer,
+            ..Cio::new(CHANNEL, command)
         };
-        self.planned.push_back(Step::from(call));
+        self.planned.push_back(Call::Cio(cio).into());
     }
 }

@@ -2,6 +2,7 @@
 //! out here from the papers once more, and not asked of the model.
 
 use model::image::Kind;
+use model::Request;
 
 use crate::KIND;
 
@@ -64,6 +65,12 @@ pub fn answer(number: u64) -> Answer {
     ((number % 256) as u8, number / 256)
 }
 
+fn request(channel: u8, command: u8, direction: u8, name: &[u8]) -> Request<'_> {
+    Request::new(channel, command)
+        .direction(direction)
+        .name(name)
+}
+
 pub struct Desk {
     pub image: Vec<u8>,
     pub table: [u16; 40],
@@ -79,31 +86,21 @@ impl Desk {
     }
 
     pub fn cio(&mut self, channel: u8, command: u8, direction: u8, name: &[u8]) -> Answer {
-        self.with(channel, command, direction, name, &mut [])
+        self.ask(request(channel, command, direction, name))
     }
 
-    pub fn with(
-        &mut self,
-        channel: u8,
-        command: u8,
-        direction: u8,
-        name: &[u8],
-        buffer: &mut [u8],
-    ) -> Answer {
-        let (image, table) = (&mut self.image, &mut self.table);
-        answer(model::cio(
-            image, table, channel, command, direction, name, buffer,
-        ))
+    fn ask(&mut self, mut request: Request) -> Answer {
+        answer(model::cio(&mut self.image, &mut self.table, &mut request))
     }
 
     pub fn put(&mut self, channel: u8, bytes: &[u8]) -> Answer {
-        self.with(channel, PUT, 0, b"", &mut bytes.to_vec())
+        self.ask(Request::new(channel, PUT).buffer(&mut bytes.to_vec()))
     }
 
     /// A get into a buffer of `$EE`.
     pub fn get(&mut self, channel: u8, length: usize) -> (Answer, Vec<u8>) {
         let mut buffer = vec![0xee; length];
-        let answer = self.with(channel, GET, 0, b"", &mut buffer);
+        let answer = self.ask(Request::new(channel, GET).buffer(&mut buffer));
         (answer, buffer)
     }
 
@@ -161,7 +158,8 @@ impl Desk {
     pub fn refused(&mut self, channel: u8, command: u8, direction: u8, name: &[u8]) -> u8 {
         let (image, table) = (self.image.clone(), self.table);
         let mut buffer = [0xee; 3];
-        let (status, count) = self.with(channel, command, direction, name, &mut buffer);
+        let request = request(channel, command, direction, name).buffer(&mut buffer);
+        let (status, count) = self.ask(request);
         assert!(self.image == image && self.table == table && buffer == [0xee; 3]);
         assert_eq!(count, 0);
         status

@@ -2,6 +2,8 @@
 //!
 //! `Desk::refused` also tests that the image, the table and the buffer are as they were.
 
+use model::Request;
+
 use super::common::*;
 
 const CLOSED_ONLY: [u8; 7] = [OPEN, STATUS, RENAME, DELETE, LOCK, UNLOCK, FORMAT];
@@ -28,10 +30,8 @@ fn row_255_malformed_table() {
     for length in [0, 39, 41, 45] {
         let mut words = vec![0; length];
         desk.image.truncate(5);
-        assert_eq!(
-            model::cio(&mut desk.image, &mut words, 9, 0, 0, b"", &mut []),
-            255
-        );
+        let cio = model::cio(&mut desk.image, &mut words, &mut Request::new(9, 0));
+        assert_eq!(cio, 255);
     }
     desk.set_record(6, [3, 0, 0, 0, 0]);
     assert_eq!(desk.refused(9, 0, 0, b""), 255);
