@@ -1,11 +1,13 @@
 -- `fill_directory` is safe and ends: each turn leaves one less of 64.
+use mathlib.Core.Path.{_≡_}
 use Prim.Native.Nat.{_-_}
+use lib.ListN.{length}
 use borrow.Author.Needs.{needs}
 use Rattle.examples.proofs.steps.fill_directory.Statement.{statement}
 use Rattle.examples.proofs.steps.fill_directory.Tie as tie
 
 abbrev Inv-loop : tie.InvT-loop
-Inv-loop image₀ i₀ image i = Unit
+Inv-loop image₀ i₀ image i = length image ≡ length image₀
 
 abbrev μ-loop : tie.MeasureT-loop
 μ-loop image₀ i₀ image i = 64 - i
@@ -28,6 +30,9 @@ slice-aggregate-make-2 c = search needs
 make-requires : tie.Need-make-requires Inv-loop μ-loop
 make-requires c κs = search needs
 
+same-length : tie.Need-same-length Inv-loop μ-loop
+same-length c = search needs
+
 returns : tie.Need-returns Inv-loop μ-loop
 returns c = search needs
 
@@ -40,8 +45,11 @@ loop-less c = search needs
 loop-again : tie.Need-loop-again Inv-loop μ-loop
 loop-again c = search needs
 
+same-length-2 : tie.Need-same-length-2 Inv-loop μ-loop
+same-length-2 c = search needs
+
 returns-2 : tie.Need-returns-2 Inv-loop μ-loop
 returns-2 c = search needs
 
 pub fill-directory-spec : {M : Type 1} → statement M
-fill-directory-spec = tie.close (tie.spec Inv-loop μ-loop loop-holds add-t6 add-t8 slice-aggregate-make slice-aggregate-make-2 make-requires returns add-i loop-less loop-again returns-2)
+fill-directory-spec = tie.close (tie.spec Inv-loop μ-loop loop-holds add-t6 add-t8 slice-aggregate-make slice-aggregate-make-2 make-requires same-length returns add-i loop-less loop-again same-length-2 returns-2)
