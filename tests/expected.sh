@@ -12,14 +12,14 @@ list=tests/expected.txt
 work=$(mktemp -d)
 trap 'rm -rf "$work"' EXIT
 
-# Edits where neither rt nor tests/spoiled.sh looks for them.
+# Edits where neither rt nor tests/edits.sh nor tests/spoiled.sh looks for them.
 stray_edits() {
     local edit crate
     find . \( -path ./target -o -path ./rust/target -o -name .git \) -prune -o -name '*.edit' -print | sed 's/^\.\///' | sort | while IFS= read -r edit; do
         crate=${edit#crates/}
         crate=${crate%%/*}
         case $edit in
-        "crates/$crate/must-fail/$(basename "$edit")") grep -q "^$crate:" crates.txt || echo "$edit" ;;
+        "crates/$crate/must-fail/$(basename "$edit")" | "crates/$crate/must-fail/quick/$(basename "$edit")") grep -q "^$crate:" crates.txt || echo "$edit" ;;
         "tests/spoiled/$(basename "$edit")") ;;
         *) echo "$edit" ;;
         esac
@@ -53,7 +53,7 @@ rust_tests() {
 in_tree() {
     local file name
     sed -nE 's/^([A-Za-z0-9_]+):.*/crate \1/p' crates.txt
-    for file in crates/*/must-fail/*.edit; do
+    for file in crates/*/must-fail/*.edit crates/*/must-fail/quick/*.edit; do
         name=${file#crates/}
         echo "must-fail ${name%%/*}/$(basename "$file" .edit)"
     done
@@ -78,6 +78,7 @@ ran() {
     sed -nE '
         s/^rt: ([A-Za-z0-9_]+) proved \([0-9]+ s\)$/crate \1/p
         s/^rt: must-fail ([^ ]+): refused, as it must be.*/must-fail \1/p
+        s/^refused: must-fail ([^ ]+), as it must be.*/must-fail \1/p
         s/^refused: spoiled ([^ ]+), as it must be.*/spoiled \1/p
         s/^noticed after +[0-9]+ calls: ([A-Za-z0-9]+):.*/fault \1/p
         s/^passed: (.*)/part \1/p' "$1"

@@ -1,5 +1,5 @@
 #!/usr/bin/env bash
-# Each must-fail edit was refused at a fact: by the logs that rt ci leaves, some need of a function, or some law or example, is
+# Each must-fail edit was refused at a fact: by the logs that rt ci and tests/edits.sh leave, some need of a function, or some law or example, is
 # not proved, and nothing is refused only for its shape, as it is where the edited code no longer has the parts that its proof
 # names. What is refused for its shape says nothing about what the edit gets wrong.
 # Ends with 'N passed, M failed'.
@@ -13,7 +13,7 @@ failed=0
 # that leads to another place of the code.
 shape='not in scope|no field|has no |can be named|error: `[^`]*-spec`|one has `[^ `]*\.Lts\.[A-Z][^ `]*`'
 
-for edit in crates/*/must-fail/*.edit; do
+for edit in crates/*/must-fail/*.edit crates/*/must-fail/quick/*.edit; do
     name=${edit#crates/}
     name=${name%%/*}/$(basename "$edit" .edit)
     # What could not be checked since something before it was refused is passed over.

@@ -11,6 +11,7 @@
 # Ends with 'N passed, M failed', a copy proved unedited or an edit refused being one passed; exits non-zero where one failed.
 set -uo pipefail
 cd "$(dirname "$0")/.."
+source tests/common.sh
 root=$PWD
 work=$(mktemp -d)
 trap 'rm -rf "$work"' EXIT
@@ -23,19 +24,6 @@ below() {
         [ -d "$root/crates/$dep" ] && below "$dep"
     done
     echo "$1"
-}
-
-# Replaces the one place of text $2 in file $1 by text $3.
-replace() {
-    OLD=$2 NEW=$3 awk '
-        { text = text $0 "\n" }
-        END {
-            at = index(text, ENVIRON["OLD"])
-            if (!at) exit 1
-            rest = substr(text, at + length(ENVIRON["OLD"]))
-            if (index(rest, ENVIRON["OLD"])) exit 1
-            printf "%s%s%s", substr(text, 1, at - 1), ENVIRON["NEW"], rest
-        }' "$1" >"$1.new" && mv "$1.new" "$1"
 }
 
 # Copies the crates up to $2 into folder $1, with the parts named after that.
@@ -124,12 +112,6 @@ try() {
         echo "refused: spoiled $label, as it must be ($refused, $(grep -oE "$at:[0-9]+:[0-9]+" <<<"$found"))" >"$place.res"
     fi
     rm -rf "$place"
-}
-
-# Runs a command beside at most one other.
-beside() {
-    while [ "$(jobs -rp | wc -l)" -ge 2 ]; do wait -n; done
-    "$@" &
 }
 
 while read -r top part; do

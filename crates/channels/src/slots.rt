@@ -1,5 +1,7 @@
 // Slots that are held, and the slot that a new file takes.
 use super::table::held_by_channel;
+use directory::flags::deleted;
+use directory::flags::output_flag;
 use image::slot::flag;
 use layout::Found;
 use layout::Table;
@@ -7,24 +9,9 @@ use layout::density::Medium;
 ghost use mathlib.Core.Path.{_≡_};
 ghost use Prim.Native.Nat.{_<_};
 ghost use Rattle.layout.specs.Image.{Whole, geometryOf, view};
-ghost use Rattle.layout.specs.Directory.{TellsFound, deleted, output};
+ghost use Rattle.layout.specs.Directory.{Below, TellsFound};
 ghost use Rattle.layout.specs.Channels.{held, vacant, newSlot};
 ghost use Rattle.layout.specs.Status.{success, noSlot};
-ghost use Rattle.channels.specs.Below.{Below};
-
-// $80 deleted.
-pub fn deleted(f: u8) -> bool
-    ensures { λ r. ⌜ r ≡ deleted f ⌝ }
-{
-    f / 128 % 2 == 1
-}
-
-// $01 open for output.
-pub fn output(f: u8) -> bool
-    ensures { λ r. ⌜ r ≡ output f ⌝ }
-{
-    f % 2 == 1
-}
 
 // A channel holds its slot; a slot with flag $01 is held too.
 pub fn held(m: Medium, image: &[u8], t: Table, s: u16) -> bool
@@ -32,7 +19,7 @@ pub fn held(m: Medium, image: &[u8], t: Table, s: u16) -> bool
     ensures { λ r. ⌜ r ≡ held (view (geometryOf m) (now (image .entry))) t s ⌝ }
 {
     let f = flag(m, image, s);
-    held_by_channel(t, s) | output(f)
+    held_by_channel(t, s) | output_flag(f)
 }
 
 // A slot that a new file may take: deleted or zero, and held by no channel.

@@ -2,7 +2,7 @@
 ghost use mathlib.Core.Path.{_≡_};
 ghost use Prim.Native.Nat.{_+_, _≤_};
 ghost use Rattle.layout.specs.Basics.{firstFrom};
-ghost use Rattle.layout.specs.Names.{char, letter, digit, plain, ending, comma, other};
+ghost use Rattle.layout.specs.Names.{char, letter, digit, plain, ending, comma, notPlain};
 ghost use Rattle.chars.specs.Ends.{endsBy};
 
 // Byte i of the text; past its end 256, which is no byte.
@@ -60,8 +60,8 @@ pub fn ends_by(by_comma: bool, x: u16) -> bool
 }
 
 // No letter or digit stands at i.
-pub fn other(text: &[u8], i: usize) -> bool
-    ensures { λ r. ⌜ r ≡ other (now (text .entry)) i ⌝ }
+pub fn not_plain(text: &[u8], i: usize) -> bool
+    ensures { λ r. ⌜ r ≡ notPlain (now (text .entry)) i ⌝ }
 {
     !plain(char(text, i))
 }
@@ -69,11 +69,11 @@ pub fn other(text: &[u8], i: usize) -> bool
 // Where the letters and digits from i on end, at most n of them.
 pub fn end_of(text: &[u8], n: usize, i: usize) -> usize
     requires { ⌜ (n ≤ 64) × (i ≤ 64) ⌝ }
-    ensures { λ r. ⌜ (r ≡ firstFrom (other (now (text .entry))) n i) × (r ≤ i + n) ⌝ }
+    ensures { λ r. ⌜ (r ≡ firstFrom (notPlain (now (text .entry))) n i) × (r ≤ i + n) ⌝ }
 {
     let mut k = i;
     while k < n + i {
-        if other(text, k) {
+        if not_plain(text, k) {
             return k;
         }
         k += 1;

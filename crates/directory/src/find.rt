@@ -1,32 +1,31 @@
 // The search for a name, eight of its bytes at once, and a slot's name written.
-use super::flags::standing;
+use super::flags::standing_flag;
 use image::slot::entry_at;
-use image::slot::put_entry;
 use image::slot::slot_after;
 use image::slot::slot_start;
+use image::slot::write_entry;
 use layout::Found;
 use layout::density::Density;
 use layout::density::Medium;
 use names::name_byte;
-use runs::words::extension_word;
-use runs::words::extension_word_at;
-use runs::words::name_word;
-use runs::words::name_word_at;
+use runs::words::slot_extension;
+use runs::words::slot_extension_at;
+use runs::words::slot_name;
+use runs::words::slot_name_at;
 ghost use mathlib.Core.Path.{_≡_};
 ghost use Prim.Native.Nat.{_+_, _*_, _/_, _%_, _<_};
 ghost use Rattle.layout.specs.Image.{Whole, geometryOf, view};
-ghost use Rattle.layout.specs.Directory.{name, sameName, search, TellsFound, bearsBeside, find, another, putName};
+ghost use Rattle.layout.specs.Directory.{Below, name, sameName, search, TellsFound, bearsBeside, find, another, writeName};
 ghost use Rattle.layout.specs.Status.{success, notFound, nameTaken};
 ghost use Rattle.layout.specs.Names.{nameByte};
-ghost use Rattle.channels.specs.Below.{Below};
 
 // The slot that starts at `at` has the name.
 fn same_name(m: Medium, image: &[u8], slot: u16, at: usize, name: u64, extension: u64) -> bool
     requires { ⌜ Whole m (now image) × (slot < 64) × (at ≡ geometryOf m .start (361 + slot / 8) + slot % 8 * 16) ⌝ }
     ensures { λ r. ⌜ r ≡ sameName (view (geometryOf m) (now (image .entry))) slot (nameByte name extension) ⌝ }
 {
-    (name_word_at(m, image, slot, at) == name)
-        & (extension_word_at(m, image, slot, at) == extension % 16777216)
+    (slot_name_at(m, image, slot, at) == name)
+        & (slot_extension_at(m, image, slot, at) == extension % 16777216)
 }
 
 // The first standing slot with the name, slot `beside` left out. Most flags are neither zero nor deleted, so that is tested first. Where a slot starts is handed on.
@@ -38,7 +37,7 @@ fn find_slot(m: Medium, image: &[u8], name: u64, extension: u64, beside: u16) ->
     let mut at = slot_start(m, 0);
     while s < 64 {
         let f = entry_at(m, image, s, at, 0);
-        if standing(f) {
+        if standing_flag(f) {
             if same_name(m, image, s, at, name, extension) & !(s == beside) {
                 return Found::At(s);
             }
@@ -94,20 +93,20 @@ pub fn has_double(m: Medium, image: &[u8], slot: u16) -> bool
     another(
         m,
         image,
-        name_word(m, image, slot),
-        extension_word(m, image, slot),
+        slot_name(m, image, slot),
+        slot_extension(m, image, slot),
         slot,
     )
 }
 
 // The eleven bytes of a name written.
-pub fn put_name(m: Medium, image: &mut [u8], slot: u16, name: u64, extension: u64)
+pub fn write_name(m: Medium, image: &mut [u8], slot: u16, name: u64, extension: u64)
     requires { ⌜ Whole m (now image) × (slot < 64) ⌝ }
-    ensures { λ _. ⌜ view (geometryOf m) (now (image .exit)) ≡ putName (view (geometryOf m) (now (image .entry))) slot (nameByte name extension) ⌝ }
+    ensures { λ _. ⌜ view (geometryOf m) (now (image .exit)) ≡ writeName (view (geometryOf m) (now (image .entry))) slot (nameByte name extension) ⌝ }
 {
     let mut j: usize = 0;
     while j < 11 {
-        put_entry(m, image, slot, 5 + j, name_byte(name, extension, j));
+        write_entry(m, image, slot, 5 + j, name_byte(name, extension, j));
         j += 1;
     }
 }

@@ -21,44 +21,49 @@ use Rattle.layout.proofs.Check.{by-check, by-served}
 use Rattle.layout.proofs.Logic.{and-left, and-right}
 use Rattle.layout.proofs.Members.{no-member, member-cons}
 use Rattle.rules.specs.declared.Block.{Block}
-use Rattle.rules.specs.Commands.{putAt}
-use Rattle.rules.specs.Cio.{ImageOutcome, getAt, cio, cioCall}
-use Rattle.rules.specs.Demand1.{openAnswers, answers, recoveryAnswers}
+use Rattle.rules.specs.declared.Transfer.{Transfer}
+use Rattle.rules.specs.declared.Transfer.the-variants.{Get, Put}
+use Rattle.rules.specs.declared.FileCommand.{FileCommand}
+use Rattle.rules.specs.declared.FileCommand.the-variants.{Open, Status, Rename, Delete, Lock, Unlock, Format}
+use Rattle.rules.specs.declared.Command.the-variants.{Moves, Files}
+use Rattle.rules.specs.Cio.{Outcome, ImageOutcome, cioCall}
+use Rattle.rules.specs.Demand1.{openAnswers, commandAnswers, answers, recoveryAnswers}
 use Rattle.rules.specs.Lists.{Call, cioOf, recoveryOf, run, ImageTable, systemOf, outcomeOn, afterOn, images}
-use Rattle.words.specs.Result.{packed}
-use Rattle.words.specs.Words.{inForce, stateIn, recordAt, kindInForce, isTable, channelsFrom, tableOf}
+use Rattle.rules.proofs.Acts.{Kind, Ends, refuses, reads, reads-none, writes, writes-none, frees, closes, drops, opens, rewrites, makes, tells, renames, deletes, locks, unlocks, formats, restores}
+use Rattle.rules.proofs.Ends.{by-command, ends-as}
+use Rattle.words.specs.Result.{resultOf}
+use Rattle.words.specs.Words.{inForce, stateIn, channelAt, kindInForce, isTable, channelsFrom, tableOf}
 use Rattle.words.proofs.Tables.{table-length, table-eight, words-say, words-table}
 use Rattle.capi.proofs.Laws.{on-table}
-use Rattle.theory.proofs.Cases.{by-cases}
 use Rattle.theory.proofs.Demand1.{demand1}
 use Rattle.theory.proofs.Alike.{Alike, demand2-alike, demand3-alike}
 use Rattle.theory.proofs.OnImages.{image-demand2, image-demand3}
 use Rattle.exported.specs.Words.{ImageWords, said, callWords, seen, words, WordsRun, FreshWords, WordsDemand2, WordsDemand3}
 
--- a CIO call leaves as many channels as there were
-cio-many : (g : Geometry) (d : Disk) (t : Table) (c : Block) (text b : List ℕ) → length (cio g d t c text b .effect .table .channels) ≡ length (t .channels)
-unfolding getAt putAt
-cio-many g d t c text b = by-cases g d t c text b (λ o. length (o .effect .table .channels) ≡ length (t .channels)) (record {
-  refuses = λ n _. refl;
-  gets = λ _ _. with-length t (c .channel) _;
-  puts = λ _ _. with-length t (c .channel) _;
-  reads = λ _ _ _ _ s _ _. with-length t (c .channel) _;
-  replaces = λ _ _ _ _ s _ _. with-length t (c .channel) _;
-  makes = λ _ _ _ _ u w _ _ s _ _. with-length t (c .channel) _;
-  shuts = λ _ _ _. with-length t (c .channel) _;
-  finishes = λ _ _ s p _ _. with-length t (c .channel) _;
-  breaks = λ _ _ s p _ _. with-length t (c .channel) _;
-  asks = λ _. refl;
-  renames = λ _ s _ u w _ _. refl;
-  deletes = λ _ s _ _. refl;
-  locks = λ _ s _ _. refl;
-  unlocks = λ _ s _ _. refl;
-  formats = λ _ _. refl;
-})
+-- a call leaves as many channels as there were
+many : {g : Geometry} {d : Disk} (t : Table) {k : Kind} {c : Call} {o : Outcome} → Ends g d t k c o → length (o .effect .table .channels) ≡ length (t .channels)
+many t (refuses n w m) = refl
+many t (reads {c = c} s k o l h) = with-length t (c .channel) _
+many t (reads-none o e) = refl
+many t (writes {c = c} s p h) = with-length t (c .channel) _
+many t (writes-none o e) = refl
+many t (frees {c = c} o h) = with-length t (c .channel) _
+many t (closes {c = c} s p h e) = with-length t (c .channel) _
+many t (drops {c = c} s p h e) = with-length t (c .channel) _
+many t (opens {c = c} s h) = with-length t (c .channel) _
+many t (rewrites {c = c} s h) = with-length t (c .channel) _
+many t (makes {c = c} s h) = with-length t (c .channel) _
+many t (tells h) = refl
+many t (renames s h) = refl
+many t (deletes s h) = refl
+many t (locks s h) = refl
+many t (unlocks s h) = refl
+many t (formats h) = refl
+many t (restores s h) = refl
 
 call-many : (l : List ℕ) (t : Table) (c : Block) (text b : List ℕ) → length (cioCall l t c text b .answer .table .channels) ≡ length (t .channels)
 unfolding cioCall
-call-many l t c text b = by-served (λ (o : ImageOutcome). length (o .answer .table .channels) ≡ length (t .channels)) _ _ _ (λ _ _. refl) (λ m _. cio-many (geometryOf m) (view (geometryOf m) l) t c text b)
+call-many l t c text b = by-served (λ (o : ImageOutcome). length (o .answer .table .channels) ≡ length (t .channels)) _ _ _ (λ _ _. refl) (λ m _. many t (ends-as (geometryOf m) (view (geometryOf m) l) t c text b _ refl))
 
 -- every status is a byte, so that a result can be taken apart again: it is one of a list of bytes
 bytes : List ℕ → Bool
@@ -75,15 +80,24 @@ member-byte (x ∷ l) e n m = go (member-cons n x l m) (member-byte l (and-right
     go (inr q) f = f q
 
 answers-bytes : (c : Block) → bytes (answers c) ≡ true
-unfolding answers openAnswers bytes
-answers-bytes c = by-check P _ _ _ (λ _. refl) λ _. by-check P _ _ _ (λ _. refl) λ _.
-    by-check P _ _ _ (λ _. by-check P _ _ _ (λ _. refl) λ _. by-check P _ _ _ (λ _. refl) λ _. refl) λ _.
-    by-check P _ _ _ (λ _. refl) λ _. by-check P _ _ _ (λ _. refl) λ _. by-check P _ _ _ (λ _. refl) λ _.
-    by-check P _ _ _ (λ _. refl) λ _. by-check P _ _ _ (λ _. refl) λ _. by-check P _ _ _ (λ _. refl) λ _.
-    by-check P _ _ _ (λ _. refl) λ _. by-check P _ _ _ (λ _. refl) λ _. by-check P _ _ _ (λ _. refl) λ _. refl
+unfolding answers commandAnswers openAnswers bytes
+answers-bytes c = by-check P _ _ _ (λ _. refl) λ _. by-command (λ k. P (commandAnswers (c .direction) k)) (c .command) moved refl filed refl refl
   where
     P : List ℕ → Type 0
     P l = bytes l ≡ true
+
+    moved : (k : Transfer) → P (commandAnswers (c .direction) (Moves k))
+    moved Get = refl
+    moved Put = refl
+
+    filed : (k : FileCommand) → P (commandAnswers (c .direction) (Files k))
+    filed Open = by-check P _ _ _ (λ _. refl) λ _. by-check P _ _ _ (λ _. refl) λ _. refl
+    filed Status = refl
+    filed Rename = refl
+    filed Delete = refl
+    filed Lock = refl
+    filed Unlock = refl
+    filed Format = refl
 
 status-byte : (c : Call) (x : ImageTable) → outcomeOn c x .answer .status < 256
 unfolding outcomeOn bytes
@@ -115,7 +129,7 @@ module _ (x : ImageWords) (h : isTable (x .words) ≡ true) where
       (ap (λ u. record { image = o .image; table = u }) (words-say (x .words) (o .answer .table) (table-length (x .words) h) (call-many (x .image) t c text b ∙ table-eight (x .words))))
   call-said (recoveryOf s) = refl
 
-  call-result : (c : Call) → let a = outcomeOn c (said x) .answer in callWords c x .result ≡ packed (a .status) (a .count)
+  call-result : (c : Call) → let a = outcomeOn c (said x) .answer in callWords c x .result ≡ resultOf (a .status) (a .count)
   unfolding callWords outcomeOn
   call-result (cioOf c text b) = rw (on-table (x .image) (x .words) c text b h)
   call-result (recoveryOf s) = refl
@@ -165,7 +179,7 @@ words-run g x h cs =
     record {
       table = t;
       same = e;
-      result = λ c. call-result y t c ∙ ap (λ z. packed (outcomeOn c z .answer .status) (outcomeOn c z .answer .count)) e;
+      result = λ c. call-result y t c ∙ ap (λ z. resultOf (outcomeOn c z .answer .status) (outcomeOn c z .answer .count)) e;
       buffer = λ c. call-buffer y t c ∙ ap (λ z. outcomeOn c z .buffer) e;
     }
 
@@ -177,5 +191,5 @@ words-demand3 m x h a = let g = geometryOf m in demand3-alike (words g) (images 
 
 -- forty zeros
 pub fresh-words : FreshWords
-unfolding isTable allBelow kindInForce inForce tableOf channelsFrom recordAt stateIn freshTable
+unfolding isTable allBelow kindInForce inForce tableOf channelsFrom channelAt stateIn freshTable
 fresh-words = (refl, refl)

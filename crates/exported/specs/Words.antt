@@ -12,7 +12,7 @@ use Rattle.rules.specs.Recovery.{recoverCall}
 use Rattle.rules.specs.Lists.{Call, cioOf, recoveryOf, Machine, run, ImageTable, systemOf, outcomeOn, images, SoundImage}
 use Rattle.rules.specs.Demand2.{Demand2}
 use Rattle.rules.specs.Demand3.{Demand3}
-use Rattle.words.specs.Result.{packed}
+use Rattle.words.specs.Result.{resultOf}
 use Rattle.words.specs.Words.{isTable, tableOf}
 use Rattle.capi.specs.Leaves.{cioLeaves}
 
@@ -36,7 +36,7 @@ unfoldable pub callWords : Call → ImageWords → Leaves
 callWords (cioOf c text b) x = let o = cioLeaves (x .image) (x .words) c text b in
     record { result = o .result; buffer = o .buffer; after = record { image = o .image; words = o .table } }
 callWords (recoveryOf s) x = let o = recoverCall (x .image) s in
-    record { result = packed (o .reply .status) (o .reply .count); buffer = []; after = record { image = o .image; words = x .words } }
+    record { result = resultOf (o .reply .status) (o .reply .count); buffer = []; after = record { image = o .image; words = x .words } }
 
 module _ (g : Geometry) where
   -- a call as its caller sees it: status and count as the header takes them out of the result (dos_answer_status, dos_answer_count), the disk and the channels after it, and the buffer. The sectors given out and the slot taken are not told: they are those of the rules
@@ -55,7 +55,7 @@ module _ (g : Geometry) where
     -- the image, and the channels that the words say, are those of the rules
     pub same : said (run words cs x) ≡ run (images g) cs (said x)
     -- the next call, whichever it is, answers the status and the count of the rules and leaves their buffer
-    pub result : (c : Call) → let a = outcomeOn c (run (images g) cs (said x)) .answer in callWords c (run words cs x) .result ≡ packed (a .status) (a .count)
+    pub result : (c : Call) → let a = outcomeOn c (run (images g) cs (said x)) .answer in callWords c (run words cs x) .result ≡ resultOf (a .status) (a .count)
     pub buffer : (c : Call) → callWords c (run words cs x) .buffer ≡ outcomeOn c (run (images g) cs (said x)) .buffer
 
 -- from any image, served or not, and any words that are a table

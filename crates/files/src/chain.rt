@@ -1,8 +1,8 @@
 // Whether a slot's chain is clean. A walk is safe on any chain: a sector is entered only if it fits, and at most 707 are.
 use bits::data_sector;
+use image::link::in_use;
 use image::link::next;
 use image::link::owner;
-use image::link::used;
 use image::slot::count;
 use image::slot::first;
 use layout::density::Medium;
@@ -20,7 +20,7 @@ pub fn fits(m: Medium, image: &[u8], slot: u16, sector: u16) -> bool
     if !data_sector(sector) {
         return false;
     }
-    (owner(m, image, sector) == slot) & (used(m, image, sector) as usize <= m.density.room)
+    (owner(m, image, sector) == slot) & (in_use(m, image, sector) as usize <= m.density.room)
 }
 
 // And it is marked used, or free where `freed` says so.

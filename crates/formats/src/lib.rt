@@ -1,6 +1,6 @@
 // A formatted disk: all zero but a good table with 707 free, and the header, which stays.
-use image::bytes::put_byte;
-use image::bytes::put_word;
+use image::bytes::write_byte;
+use image::bytes::write_word;
 use layout::density::Medium;
 ghost use mathlib.Core.Path.{_≡_};
 ghost use Rattle.layout.specs.Image.{Whole, geometryOf, view};
@@ -21,26 +21,26 @@ fn clear(m: Medium, image: &mut [u8])
 }
 
 // The map's bytes set to ones.
-fn put_ones(m: Medium, image: &mut [u8])
+fn write_ones(m: Medium, image: &mut [u8])
     requires { ⌜ Whole m (now image) ⌝ }
     ensures { λ _. ⌜ view (geometryOf m) (now (image .exit)) ≡ withOnes (view (geometryOf m) (now (image .entry))) ⌝ }
 {
     let mut j: usize = 10;
     while j < 100 {
-        put_byte(m, image, 360, j, 0xFF);
+        write_byte(m, image, 360, j, 0xFF);
         j += 1;
     }
 }
 
 // A fresh map: ones, but for the sectors 0 to 3, 360 to 367, and 368.
-fn put_map(m: Medium, image: &mut [u8])
+fn write_map(m: Medium, image: &mut [u8])
     requires { ⌜ Whole m (now image) ⌝ }
     ensures { λ _. ⌜ view (geometryOf m) (now (image .exit)) ≡ withMap (view (geometryOf m) (now (image .entry))) ⌝ }
 {
-    put_ones(m, image);
-    put_byte(m, image, 360, 10, 0x0F);
-    put_byte(m, image, 360, 55, 0);
-    put_byte(m, image, 360, 56, 0x7F);
+    write_ones(m, image);
+    write_byte(m, image, 360, 10, 0x0F);
+    write_byte(m, image, 360, 55, 0);
+    write_byte(m, image, 360, 56, 0x7F);
 }
 
 // The formatted disk.
@@ -49,8 +49,8 @@ pub fn format(m: Medium, image: &mut [u8])
     ensures { λ _. ⌜ view (geometryOf m) (now (image .exit)) ≡ formatted (view (geometryOf m) (now (image .entry))) ⌝ }
 {
     clear(m, image);
-    put_byte(m, image, 360, 0, 2);
-    put_word(m, image, 360, 1, 707);
-    put_word(m, image, 360, 3, 707);
-    put_map(m, image);
+    write_byte(m, image, 360, 0, 2);
+    write_word(m, image, 360, 1, 707);
+    write_word(m, image, 360, 3, 707);
+    write_map(m, image);
 }

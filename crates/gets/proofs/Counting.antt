@@ -15,7 +15,7 @@ use borrow.Author.Tests.{eqb-true, eq-eqb, ne-eqb, le-leb}
 use Rattle.layout.specs.Basics.{valuesFrom}
 use Rattle.layout.specs.Image.{Disk, Geometry}
 use Rattle.layout.specs.Volume.{dataSector}
-use Rattle.layout.specs.File.{owner, next, used, fits}
+use Rattle.layout.specs.File.{owner, next, inUse, fits}
 use Rattle.layout.proofs.Logic.{and-left, and-right, and-no}
 use Rattle.layout.proofs.Data.{data-cases, data-facts}
 use Rattle.gets.specs.Entered.{full, leadsOn, Consecutive, Fills, FillsBehind}
@@ -40,9 +40,9 @@ both-test o n u s t r h f = go (ℕ-discrete o s) (ℕ-discrete n t) (ℕ-discre
     go (yes a) (yes b) (yes c) = rw (eq-eqb (o * 1024 + n) (s * 1024 + t) (omega arith), eq-eqb o s a, le-leb u r (omega arith), eq-eqb u r c, eq-eqb n t b)
 
 module _ (g : Geometry) (d : Disk) (s k : ℕ) where
-  pub leads-test : dataSector k ≡ true → next g (d k) < 1024 → (eqb (owner g (d k) * 1024 + next g (d k)) (s * 1024 + (k + 1)) && eqb (used g (d k)) (g .room)) ≡ leadsOn g d s k
+  pub leads-test : dataSector k ≡ true → next g (d k) < 1024 → (eqb (owner g (d k) * 1024 + next g (d k)) (s * 1024 + (k + 1)) && eqb (inUse g (d k)) (g .room)) ≡ leadsOn g d s k
   unfolding leadsOn full fits
-  leads-test e h = let f = data-facts k e in rw e (both-test (owner g (d k)) (next g (d k)) (used g (d k)) s (k + 1) (g .room) h (omega arith))
+  leads-test e h = let f = data-facts k e in rw e (both-test (owner g (d k)) (next g (d k)) (inUse g (d k)) s (k + 1) (g .room) h (omega arith))
 
   -- what it says
   pub leads-full : leadsOn g d s k ≡ true → full g d s k ≡ true

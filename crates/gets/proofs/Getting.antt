@@ -12,7 +12,7 @@ use lib.Seq.{sets}
 use borrow.Author.Tests.{leb-true, ltb-true}
 use Rattle.layout.specs.Basics.{valuesFrom}
 use Rattle.layout.specs.Image.{Disk, Geometry}
-use Rattle.layout.specs.File.{next, used}
+use Rattle.layout.specs.File.{next, inUse}
 use Rattle.layout.specs.Status.{success, badChain, endOfFile}
 use Rattle.layout.proofs.Logic.{and-left, and-right}
 use Rattle.rules.specs.declared.Place.{Place}
@@ -32,7 +32,7 @@ module _ (g : Geometry) (d : Disk) (s : ℕ) where
       → getFrom g d s (suc n) i p b ≡ getFrom g d s (suc n) i q b
   get-at n i p b q e h = get-step n i p b q e ∙ sym (get-step n i q b q (seek-ready g d s (q .sector) (q .offset) (q .left) (has-byte g d (q .sector) (q .offset) (let l = h .low in omega arith) (h .within))))
 
-  get-run : (m t n i k o l : ℕ) (b : List ℕ) → t ≡ m + n → 1 ≤ k → o + m ≤ used g (d k)
+  get-run : (m t n i k o l : ℕ) (b : List ℕ) → t ≡ m + n → 1 ≤ k → o + m ≤ inUse g (d k)
       → getFrom g d s t i (place k o l) b ≡ getFrom g d s n (i + m) (place k (o + m) l) (sets b i (valuesFrom (d k) m o))
   unfolding valuesFrom
   get-run zero t n i k o l b a h u = let y : t ≡ n = omega arith in rw (y, add-zero i, add-zero o)
@@ -67,7 +67,7 @@ module _ {g : Geometry} {d : Disk} {s n : ℕ} where
           same = w .same ∙ ap (λ x. getFrom g d s x i p b) y ∙ get-at g d s (n - i - 1) i p b q e t ∙ ap (λ x. getFrom g d s x i q b) (sym y);
         }
 
-    pub gets-run : 1 ≤ p .sector → (m : ℕ) → i + m ≤ n → p .offset + m ≤ used g (d (p .sector)) → (c : List ℕ) → c ≡ sets b i (valuesFrom (d (p .sector)) m (p .offset))
+    pub gets-run : 1 ≤ p .sector → (m : ℕ) → i + m ≤ n → p .offset + m ≤ inUse g (d (p .sector)) → (c : List ℕ) → c ≡ sets b i (valuesFrom (d (p .sector)) m (p .offset))
         → Gets g d s n i₀ p₀ b₀ (i + m) (place (p .sector) (p .offset + m) (p .left)) c
     gets-run h m f u c z =
         let t : n - i ≡ m + (n - (i + m)) = omega arith in
@@ -75,7 +75,7 @@ module _ {g : Geometry} {d : Disk} {s n : ℕ} where
         record { least = omega arith; most = f; entered = w .entered; same = w .same ∙ rw z (get-run g d s m (n - i) (n - (i + m)) i (p .sector) (p .offset) (p .left) b t h u) }
 
   -- bytes of the sector where one is left, up to the place e in it
-  pub gets-here : (i : ℕ) (p : Place) (b : List ℕ) → ByteLeft g d p → (m : ℕ) → i + m ≤ n → p .offset + m ≤ used g (d (p .sector)) → (c : List ℕ) → c ≡ sets b i (valuesFrom (d (p .sector)) m (p .offset))
+  pub gets-here : (i : ℕ) (p : Place) (b : List ℕ) → ByteLeft g d p → (m : ℕ) → i + m ≤ n → p .offset + m ≤ inUse g (d (p .sector)) → (c : List ℕ) → c ≡ sets b i (valuesFrom (d (p .sector)) m (p .offset))
       → (e : ℕ) → p .offset + m ≡ e → Gets g d s n i p b (i + m) (place (p .sector) e (p .left)) c
   gets-here i p b t m f u c z e h = rw (← h) (gets-run (gets-start i p b (omega arith) (record { most = t .high; least = λ _. t .low; small = λ _. t .small })) (let l = t .low in omega arith) m f u c z)
 

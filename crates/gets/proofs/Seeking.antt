@@ -8,7 +8,7 @@ use native.Mathlib.Omega.{arith}
 use lib.Dec.{eqb, leb, ltb}
 use borrow.Author.Tests.{eqb-true, ne-eqb, eqb-false, lt-ltb, le-ltb, leb-true, ltb-true, not-true}
 use Rattle.layout.specs.Image.{Disk, Geometry}
-use Rattle.layout.specs.File.{next, used, fits}
+use Rattle.layout.specs.File.{next, inUse, fits}
 use Rattle.layout.proofs.Logic.{and-left, and-right}
 use Rattle.layout.proofs.Data.{data-facts}
 use Rattle.layout.proofs.Chain.{fits-data, fits-used}
@@ -36,26 +36,26 @@ module _ (g : Geometry) (d : Disk) where
   unfolding readable
   readable-entered s k o e = (ltb-true s 64 (and-left (ltb s 64) _ e), go (ℕ-discrete k 0) (and-right (ltb s 64) _ e))
     where
-      go : Dec (k ≡ 0) → (eqb k 0 || fits g (d k) s k && leb o (used g (d k))) ≡ true → Entered g d k
+      go : Dec (k ≡ 0) → (eqb k 0 || fits g (d k) s k && leb o (inUse g (d k))) ≡ true → Entered g d k
       go (yes z) f = record { most = omega arith; least = λ n. absurd (omega arith); small = λ n. absurd (omega arith) }
       go (no z) f = fits-entered s k (and-left (fits g (d k) s k) _ (rw (ne-eqb k 0 z) at f))
 
-  pub has-byte : (k o : ℕ) → 1 ≤ k → o < used g (d k) → hasByte g d k o ≡ true
+  pub has-byte : (k o : ℕ) → 1 ≤ k → o < inUse g (d k) → hasByte g d k o ≡ true
   unfolding hasByte
-  has-byte k o a b = rw (ne-eqb k 0 (λ e. omega arith), lt-ltb o (used g (d k)) b)
+  has-byte k o a b = rw (ne-eqb k 0 (λ e. omega arith), lt-ltb o (inUse g (d k)) b)
 
-  pub at-hand : (k o n : ℕ) → atHand g d k o n ≡ true → (1 ≤ k) × (o + n ≤ used g (d k))
+  pub at-hand : (k o n : ℕ) → atHand g d k o n ≡ true → (1 ≤ k) × (o + n ≤ inUse g (d k))
   unfolding atHand
   at-hand k o n e =
       let z = eqb-false k 0 (not-true (eqb k 0) (and-left (not (eqb k 0)) _ e)) in
-      (omega (arith, z), leb-true (o + n) (used g (d k)) (and-right (not (eqb k 0)) _ e))
+      (omega (arith, z), leb-true (o + n) (inUse g (d k)) (and-right (not (eqb k 0)) _ e))
 
   pub byte-left : (k o l : ℕ) → Entered g d k → hasByte g d k o ≡ true → ByteLeft g d (place k o l)
   unfolding hasByte
   byte-left k o l t e =
       let n = eqb-false k 0 (not-true (eqb k 0) (and-left (not (eqb k 0)) _ e)) in
       let low : 1 ≤ k = omega (arith, n) in
-      record { low = t .least low; high = t .most; within = ltb-true o (used g (d k)) (and-right (not (eqb k 0)) _ e); small = t .small low }
+      record { low = t .least low; high = t .most; within = ltb-true o (inUse g (d k)) (and-right (not (eqb k 0)) _ e); small = t .small low }
 
   -- a byte is left; the file ended; no sector is left to enter; the next does not fit; or it is entered
   module _ (s k o : ℕ) where
@@ -88,11 +88,11 @@ module _ (g : Geometry) (d : Disk) where
   module _ (s t : ℕ) (u : full g d s t ≡ true) where
     pub full-fits : fits g (d t) s t ≡ true
     unfolding full
-    full-fits = and-left (fits g (d t) s t) (eqb (used g (d t)) (g .room)) u
+    full-fits = and-left (fits g (d t) s t) (eqb (inUse g (d t)) (g .room)) u
 
-    pub full-used : used g (d t) ≡ g .room
+    pub full-used : inUse g (d t) ≡ g .room
     unfolding full
-    full-used = eqb-true (used g (d t)) (g .room) (and-right (fits g (d t) s t) (eqb (used g (d t)) (g .room)) u)
+    full-used = eqb-true (inUse g (d t)) (g .room) (and-right (fits g (d t) s t) (eqb (inUse g (d t)) (g .room)) u)
 
     pub full-left : 0 < g .room → (l : ℕ) → ByteLeft g d (place t 0 l)
     full-left r l =
@@ -105,4 +105,4 @@ module _ (g : Geometry) (d : Disk) where
     seek-full k l h a z e =
         let n : k ≢ 0 = λ x. omega arith in
         let f = data-facts t (fits-data g (d t) s t full-fits) in
-        seek-on s k (g .room) t (rw (ne-eqb k 0 n) e) l z (rw (ne-eqb k 0 n, le-ltb (g .room) (used g (d k)) (h .small a))) (rw (ne-eqb k 0 n, ← e, ne-eqb t 0 (λ x. omega arith))) full-fits
+        seek-on s k (g .room) t (rw (ne-eqb k 0 n) e) l z (rw (ne-eqb k 0 n, le-ltb (g .room) (inUse g (d k)) (h .small a))) (rw (ne-eqb k 0 n, ← e, ne-eqb t 0 (λ x. omega arith))) full-fits

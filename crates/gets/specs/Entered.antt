@@ -7,7 +7,7 @@ use lib.Dec.{eqb, leb}
 use lib.ListN.{length}
 use Rattle.layout.specs.Image.{Disk, Geometry}
 use Rattle.layout.specs.Volume.{dataSector}
-use Rattle.layout.specs.File.{next, used, fits}
+use Rattle.layout.specs.File.{next, inUse, fits}
 use Rattle.rules.specs.declared.Place.{Place}
 use Rattle.rules.specs.declared.Seek.{Seek}
 use Rattle.rules.specs.declared.Seek.the-variants.{Ready, Ended, Broken}
@@ -18,14 +18,14 @@ module _ (g : Geometry) where
   pub record Entered (d : Disk) (k : ℕ) : Type 0 where
     pub most : k ≤ 720
     pub least : 0 < k → 4 ≤ k
-    pub small : 1 ≤ k → used g (d k) ≤ g .room
+    pub small : 1 ≤ k → inUse g (d k) ≤ g .room
 
   -- a byte of the entered sector is left
   pub record ByteLeft (d : Disk) (p : Place) : Type 0 where
     pub low : 4 ≤ p .sector
     pub high : p .sector ≤ 720
-    pub within : p .offset < used g (d (p .sector))
-    pub small : used g (d (p .sector)) ≤ g .room
+    pub within : p .offset < inUse g (d (p .sector))
+    pub small : inUse g (d (p .sector)) ≤ g .room
 
   -- where the search for a byte ends: at one that is left, or anywhere
   abbrev pub Sought : Disk → Seek → Type 0
@@ -35,11 +35,11 @@ module _ (g : Geometry) where
 
   -- an entered sector holds n bytes from offset o on
   unfoldable pub atHand : Disk → ℕ → ℕ → ℕ → Bool
-  atHand d k o n = not (eqb k 0) && leb (o + n) (used g (d k))
+  atHand d k o n = not (eqb k 0) && leb (o + n) (inUse g (d k))
 
   -- a sector fits, and has no room left
   unfoldable pub full : Disk → ℕ → ℕ → Bool
-  full d s k = fits g (d k) s k && eqb (used g (d k)) (g .room)
+  full d s k = fits g (d k) s k && eqb (inUse g (d k)) (g .room)
 
   -- a get of n bytes: at its byte i₀ with place p₀ and buffer b₀ it goes on as at its byte i with place p and buffer b
   pub record Gets (d : Disk) (s n i₀ : ℕ) (p₀ : Place) (b₀ : List ℕ) (i : ℕ) (p : Place) (b : List ℕ) : Type 0 where

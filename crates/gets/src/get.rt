@@ -3,7 +3,7 @@ use super::seek::seek_byte;
 use super::seek::step_in;
 use super::whole::get_whole;
 use files::chain::fits;
-use image::link::used;
+use image::link::in_use;
 use layout::State;
 use layout::density::Medium;
 use layout::status;
@@ -47,7 +47,7 @@ fn get_here(m: Medium, image: &[u8], slot: u16, p: Place, buffer: &mut [u8], i: 
     let k = p.sector;
     let o = p.offset;
     let l = p.left;
-    let n = used(m, image, k) as u16;
+    let n = in_use(m, image, k) as u16;
     let run = least((n - o) as usize, buffer.len() - i);
     get_run(m, image, k, o as usize, run, buffer, i);
     let e = o + run as u16;
@@ -107,7 +107,7 @@ fn at_hand(m: Medium, image: &[u8], sector: u16, offset: u16, n: usize) -> bool
     if sector == 0 {
         return false;
     }
-    offset as usize + n <= used(m, image, sector) as usize
+    offset as usize + n <= in_use(m, image, sector) as usize
 }
 
 // The buffer filled from a place on. Few bytes mostly lie in the sector that was entered, or in the next: then there is no loop to prepare for.
@@ -147,7 +147,7 @@ pub fn readable(m: Medium, image: &[u8], slot: u16, sector: u16, offset: u16) ->
     if !fits(m, image, slot, sector) {
         return false;
     }
-    offset <= used(m, image, sector) as u16
+    offset <= in_use(m, image, sector) as u16
 }
 
 // An answer, with the reading channel after it.

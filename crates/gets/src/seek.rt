@@ -1,7 +1,7 @@
 // The search for a channel's next byte.
 use files::chain::fits;
+use image::link::in_use;
 use image::link::next;
-use image::link::used;
 use image::slot::first;
 use layout::density::Medium;
 use rules::Place;
@@ -20,7 +20,7 @@ fn has_byte(m: Medium, image: &[u8], sector: u16, offset: u16) -> bool
     if sector == 0 {
         return false;
     }
-    offset < used(m, image, sector) as u16
+    offset < in_use(m, image, sector) as u16
 }
 
 // Next sector 0 ends the file.

@@ -1,9 +1,9 @@
 // Full sectors, entered one after another while the buffer has room for all their bytes.
 use files::chain::fits;
 use image::bytes::start;
+use image::link::in_use;
 use image::link::link_at;
 use image::link::next;
-use image::link::used;
 use image::link::used_at;
 use layout::density::Density;
 use layout::density::Medium;
@@ -44,7 +44,7 @@ fn is_full(m: Medium, image: &[u8], slot: u16, sector: u16) -> bool
     if !fits(m, image, slot, sector) {
         return false;
     }
-    used(m, image, sector) as usize == room
+    in_use(m, image, sector) as usize == room
 }
 
 // The last data sector that is reached from a data sector by counting: before the table, or before sector 720.

@@ -1,8 +1,8 @@
 // The header of an ATR file, written.
-use answers::reply;
 use layout::density::Medium;
 use layout::status;
 use rules::Reply;
+use rules::answers::reply;
 use runs::copy::copy;
 ghost use mathlib.Core.Path.{_≡_};
 ghost use Prim.Native.Nat.{_≤_};
@@ -11,7 +11,7 @@ ghost use lib.Seq.{sets};
 ghost use Rattle.rules.specs.WriteHeader.{headerCall};
 
 // A header's sixteen bytes stored in front.
-fn put_header(image: &mut [u8], header: [u8; 16])
+fn write_sixteen(image: &mut [u8], header: [u8; 16])
     requires { ⌜ 16 ≤ length (now image) ⌝ }
     ensures { λ _. ⌜ now (image .exit) ≡ sets (now (image .entry)) 0 header ⌝ }
 {
@@ -25,11 +25,11 @@ pub fn write_header(image: &mut [u8]) -> Reply
 {
     let n = image.len();
     if n == Medium::SINGLE_ATR_BYTES {
-        put_header(image, Medium::SINGLE_HEADER);
+        write_sixteen(image, Medium::SINGLE_HEADER);
         return reply(status::SUCCESS, 0);
     }
     if n == Medium::DOUBLE_ATR_BYTES {
-        put_header(image, Medium::DOUBLE_HEADER);
+        write_sixteen(image, Medium::DOUBLE_HEADER);
         return reply(status::SUCCESS, 0);
     }
     reply(status::BAD_IMAGE, 0)

@@ -3,7 +3,7 @@ use layout::density::Density;
 use layout::density::Medium;
 ghost use mathlib.Core.Path.{_≡_};
 ghost use Prim.Native.Nat.{_+_, _-_, _*_, _≤_, _<_};
-ghost use Rattle.layout.specs.Image.{Regular, Whole, geometryOf, view, put, word, putWord};
+ghost use Rattle.layout.specs.Image.{Regular, Whole, geometryOf, view, writeByte, word, writeWord};
 
 // Where a sector starts, from the fourth on. One product and no branch, so that the same place computed again costs nothing and a walk in the disk's order only adds.
 pub fn start(m: Medium, sector: u16) -> usize
@@ -23,9 +23,9 @@ pub fn byte(m: Medium, image: &[u8], sector: u16, place: usize) -> u8
 }
 
 // It written.
-pub fn put_byte(m: Medium, image: &mut [u8], sector: u16, place: usize, value: u8)
+pub fn write_byte(m: Medium, image: &mut [u8], sector: u16, place: usize, value: u8)
     requires { ⌜ Whole m (now image) × (4 ≤ sector) × (sector ≤ 720) × (place < 128) ⌝ }
-    ensures { λ _. ⌜ view (geometryOf m) (now (image .exit)) ≡ put (view (geometryOf m) (now (image .entry))) sector place value ⌝ }
+    ensures { λ _. ⌜ view (geometryOf m) (now (image .exit)) ≡ writeByte (view (geometryOf m) (now (image .entry))) sector place value ⌝ }
 {
     let at = start(m, sector) + place;
     image[at] = value;
@@ -49,9 +49,9 @@ pub fn file_byte(m: Medium, image: &[u8], sector: u16, place: usize) -> u8
 }
 
 // It written.
-pub fn put_file_byte(m: Medium, image: &mut [u8], sector: u16, place: usize, value: u8)
+pub fn write_file_byte(m: Medium, image: &mut [u8], sector: u16, place: usize, value: u8)
     requires { ⌜ Whole m (now image) × (4 ≤ sector) × (sector ≤ 720) × (place < m .density .room + 3) ⌝ }
-    ensures { λ _. ⌜ view (geometryOf m) (now (image .exit)) ≡ put (view (geometryOf m) (now (image .entry))) sector place value ⌝ }
+    ensures { λ _. ⌜ view (geometryOf m) (now (image .exit)) ≡ writeByte (view (geometryOf m) (now (image .entry))) sector place value ⌝ }
 {
     let at = start(m, sector) + place;
     image[at] = value;
@@ -68,10 +68,10 @@ pub fn word(m: Medium, image: &[u8], sector: u16, place: usize) -> u16
 }
 
 // Two bytes written; a value's higher bits are dropped.
-pub fn put_word(m: Medium, image: &mut [u8], sector: u16, place: usize, value: u32)
+pub fn write_word(m: Medium, image: &mut [u8], sector: u16, place: usize, value: u32)
     requires { ⌜ Whole m (now image) × (4 ≤ sector) × (sector ≤ 720) × (place < 127) ⌝ }
-    ensures { λ _. ⌜ view (geometryOf m) (now (image .exit)) ≡ putWord (view (geometryOf m) (now (image .entry))) sector place value ⌝ }
+    ensures { λ _. ⌜ view (geometryOf m) (now (image .exit)) ≡ writeWord (view (geometryOf m) (now (image .entry))) sector place value ⌝ }
 {
-    put_byte(m, image, sector, place, (value % 256) as u8);
-    put_byte(m, image, sector, place + 1, (value / 256 % 256) as u8);
+    write_byte(m, image, sector, place, (value % 256) as u8);
+    write_byte(m, image, sector, place + 1, (value / 256 % 256) as u8);
 }

@@ -1,13 +1,13 @@
 // The last three bytes of a file sector: slot number and next sector, and the bytes in use.
 use super::bytes::file_byte;
 use super::bytes::file_byte_at;
-use super::bytes::put_file_byte;
+use super::bytes::write_file_byte;
 use layout::density::Density;
 use layout::density::Medium;
 ghost use mathlib.Core.Path.{_≡_};
 ghost use Prim.Native.Nat.{_+_, _-_, _*_, _≤_, _<_};
 ghost use Rattle.layout.specs.Image.{Whole, geometryOf, view};
-ghost use Rattle.layout.specs.File.{owner, next, used, putLink, putUsed};
+ghost use Rattle.layout.specs.File.{owner, next, inUse, writeLink, writeInUse};
 
 // The first of them, upper six bits: the slot number.
 pub fn owner(m: Medium, image: &[u8], sector: u16) -> u16
@@ -28,9 +28,9 @@ pub fn next(m: Medium, image: &[u8], sector: u16) -> u16
 }
 
 // The last: bytes in use.
-pub fn used(m: Medium, image: &[u8], sector: u16) -> u8
+pub fn in_use(m: Medium, image: &[u8], sector: u16) -> u8
     requires { ⌜ Whole m (now image) × (4 ≤ sector) × (sector ≤ 720) ⌝ }
-    ensures { λ r. ⌜ r ≡ used (geometryOf m) (view (geometryOf m) (now (image .entry)) sector) ⌝ }
+    ensures { λ r. ⌜ r ≡ inUse (geometryOf m) (view (geometryOf m) (now (image .entry)) sector) ⌝ }
 {
     file_byte(m, image, sector, m.density.room + Density::USED)
 }
@@ -48,24 +48,24 @@ pub fn link_at(m: Medium, image: &[u8], sector: u16, at: usize) -> u16
 // The last, of the sector that starts at `at`.
 pub fn used_at(m: Medium, image: &[u8], sector: u16, at: usize) -> u8
     requires { ⌜ Whole m (now image) × (4 ≤ sector) × (sector ≤ 720) × (at ≡ geometryOf m .start sector) ⌝ }
-    ensures { λ r. ⌜ r ≡ used (geometryOf m) (view (geometryOf m) (now (image .entry)) sector) ⌝ }
+    ensures { λ r. ⌜ r ≡ inUse (geometryOf m) (view (geometryOf m) (now (image .entry)) sector) ⌝ }
 {
     file_byte_at(m, image, sector, at, m.density.room + Density::USED)
 }
 
 // Slot number and next sector written.
-pub fn put_link(m: Medium, image: &mut [u8], sector: u16, slot: u16, next: u16)
+pub fn write_link(m: Medium, image: &mut [u8], sector: u16, slot: u16, next: u16)
     requires { ⌜ Whole m (now image) × (4 ≤ sector) × (sector ≤ 720) × (slot < 64) × (next < 1024) ⌝ }
-    ensures { λ _. ⌜ view (geometryOf m) (now (image .exit)) ≡ putLink (geometryOf m) (view (geometryOf m) (now (image .entry))) sector slot next ⌝ }
+    ensures { λ _. ⌜ view (geometryOf m) (now (image .exit)) ≡ writeLink (geometryOf m) (view (geometryOf m) (now (image .entry))) sector slot next ⌝ }
 {
-    put_file_byte(
+    write_file_byte(
         m,
         image,
         sector,
         m.density.room,
         (slot * 4 + next / 256) as u8,
     );
-    put_file_byte(
+    write_file_byte(
         m,
         image,
         sector,
@@ -75,9 +75,9 @@ pub fn put_link(m: Medium, image: &mut [u8], sector: u16, slot: u16, next: u16)
 }
 
 // The bytes in use written.
-pub fn put_used(m: Medium, image: &mut [u8], sector: u16, n: u8)
+pub fn write_in_use(m: Medium, image: &mut [u8], sector: u16, n: u8)
     requires { ⌜ Whole m (now image) × (4 ≤ sector) × (sector ≤ 720) ⌝ }
-    ensures { λ _. ⌜ view (geometryOf m) (now (image .exit)) ≡ putUsed (geometryOf m) (view (geometryOf m) (now (image .entry))) sector n ⌝ }
+    ensures { λ _. ⌜ view (geometryOf m) (now (image .exit)) ≡ writeInUse (geometryOf m) (view (geometryOf m) (now (image .entry))) sector n ⌝ }
 {
-    put_file_byte(m, image, sector, m.density.room + Density::USED, n);
+    write_file_byte(m, image, sector, m.density.room + Density::USED, n);
 }

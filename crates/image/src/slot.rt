@@ -1,11 +1,11 @@
 // A slot of the directory: its bytes, flags, sector count and first sector.
-use super::bytes::put_byte;
 use super::bytes::start;
+use super::bytes::write_byte;
 use layout::density::Medium;
 ghost use mathlib.Core.Path.{_≡_};
 ghost use Prim.Native.Nat.{_+_, _-_, _*_, _/_, _%_, _≤_, _<_};
 ghost use Rattle.layout.specs.Image.{Regular, Whole, geometryOf, view};
-ghost use Rattle.layout.specs.Directory.{entry, putEntry, flag, putFlag, count, putCount, first, putFirst};
+ghost use Rattle.layout.specs.Directory.{entry, writeEntry, flag, writeFlag, count, writeCount, first, writeFirst};
 
 // Where a slot starts. Each sector of the directory has eight of them in its first 128 bytes.
 pub fn slot_start(m: Medium, slot: u16) -> usize
@@ -45,11 +45,11 @@ pub fn entry(m: Medium, image: &[u8], slot: u16, j: usize) -> u8
 }
 
 // Byte j of a slot written.
-pub fn put_entry(m: Medium, image: &mut [u8], slot: u16, j: usize, value: u8)
+pub fn write_entry(m: Medium, image: &mut [u8], slot: u16, j: usize, value: u8)
     requires { ⌜ Whole m (now image) × (slot < 64) × (j < 16) ⌝ }
-    ensures { λ _. ⌜ view (geometryOf m) (now (image .exit)) ≡ putEntry (view (geometryOf m) (now (image .entry))) slot j value ⌝ }
+    ensures { λ _. ⌜ view (geometryOf m) (now (image .exit)) ≡ writeEntry (view (geometryOf m) (now (image .entry))) slot j value ⌝ }
 {
-    put_byte(
+    write_byte(
         m,
         image,
         361 + slot / 8,
@@ -67,11 +67,11 @@ pub fn flag(m: Medium, image: &[u8], slot: u16) -> u8
 }
 
 // The flags written.
-pub fn put_flag(m: Medium, image: &mut [u8], slot: u16, value: u8)
+pub fn write_flag(m: Medium, image: &mut [u8], slot: u16, value: u8)
     requires { ⌜ Whole m (now image) × (slot < 64) ⌝ }
-    ensures { λ _. ⌜ view (geometryOf m) (now (image .exit)) ≡ putFlag (view (geometryOf m) (now (image .entry))) slot value ⌝ }
+    ensures { λ _. ⌜ view (geometryOf m) (now (image .exit)) ≡ writeFlag (view (geometryOf m) (now (image .entry))) slot value ⌝ }
 {
-    put_entry(m, image, slot, 0, value);
+    write_entry(m, image, slot, 0, value);
 }
 
 // Bytes 1 and 2: sector count.
@@ -85,12 +85,12 @@ pub fn count(m: Medium, image: &[u8], slot: u16) -> u16
 }
 
 // The sector count written.
-pub fn put_count(m: Medium, image: &mut [u8], slot: u16, n: u32)
+pub fn write_count(m: Medium, image: &mut [u8], slot: u16, n: u32)
     requires { ⌜ Whole m (now image) × (slot < 64) ⌝ }
-    ensures { λ _. ⌜ view (geometryOf m) (now (image .exit)) ≡ putCount (view (geometryOf m) (now (image .entry))) slot n ⌝ }
+    ensures { λ _. ⌜ view (geometryOf m) (now (image .exit)) ≡ writeCount (view (geometryOf m) (now (image .entry))) slot n ⌝ }
 {
-    put_entry(m, image, slot, 1, (n % 256) as u8);
-    put_entry(m, image, slot, 2, (n / 256 % 256) as u8);
+    write_entry(m, image, slot, 1, (n % 256) as u8);
+    write_entry(m, image, slot, 2, (n / 256 % 256) as u8);
 }
 
 // Bytes 3 and 4: first sector.
@@ -104,10 +104,10 @@ pub fn first(m: Medium, image: &[u8], slot: u16) -> u16
 }
 
 // The first sector written.
-pub fn put_first(m: Medium, image: &mut [u8], slot: u16, sector: u16)
+pub fn write_first(m: Medium, image: &mut [u8], slot: u16, sector: u16)
     requires { ⌜ Whole m (now image) × (slot < 64) ⌝ }
-    ensures { λ _. ⌜ view (geometryOf m) (now (image .exit)) ≡ putFirst (view (geometryOf m) (now (image .entry))) slot sector ⌝ }
+    ensures { λ _. ⌜ view (geometryOf m) (now (image .exit)) ≡ writeFirst (view (geometryOf m) (now (image .entry))) slot sector ⌝ }
 {
-    put_entry(m, image, slot, 3, (sector % 256) as u8);
-    put_entry(m, image, slot, 4, (sector / 256 % 256) as u8);
+    write_entry(m, image, slot, 3, (sector % 256) as u8);
+    write_entry(m, image, slot, 4, (sector / 256 % 256) as u8);
 }

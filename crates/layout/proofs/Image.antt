@@ -13,7 +13,7 @@ use borrow.Author.Tests.{eqb-true, eqb-false, ne-eqb, ltb-true, lt-ltb, le-ltb}
 use Rattle.layout.specs.Basics.{if, update, valuesFrom}
 use Rattle.layout.specs.declared.density.Density.{Density}
 use Rattle.layout.specs.declared.density.Medium.{Medium}
-use Rattle.layout.specs.Image.{Disk, Geometry, geometry, geometryOf, Regular, inside, view, imageOf, put, startIn, sizeIn, sectorIn, placeIn}
+use Rattle.layout.specs.Image.{Disk, Geometry, geometry, geometryOf, Regular, inside, view, imageOf, writeByte, startIn, sizeIn, sectorIn, placeIn}
 
 -- what everything else uses of a geometry
 pub record Lawful (g : Geometry) : Type 0 where
@@ -199,15 +199,15 @@ view-header m l j b = view-byte (geometryOf m) l 0 j (rw (size-header (m .header
 
 module _ (g : Geometry) (lawful : Lawful g) where
   -- a byte stored in the image is a byte of its sector written
-  pub view-set : (l : List ℕ) (k j v : ℕ) → j < g .size k → g .start k + j < length l → view g (set l (g .start k + j) v) ≡ put (view g l) k j v
-  unfolding view put update
+  pub view-set : (l : List ℕ) (k j v : ℕ) → j < g .size k → g .start k + j < length l → view g (set l (g .start k + j) v) ≡ writeByte (view g l) k j v
+  unfolding view writeByte update
   view-set l k j v b h = fun-ext (λ k'. fun-ext (λ j'. go k' j' (inside g k' j') refl (eqb k' k) refl (eqb j' j) refl))
     where
       e : inside g k j ≡ true
       e = inside-yes g k j b
 
       goal : ℕ → ℕ → Type 0
-      goal k' j' = _≡_ {A = ℕ} (if (inside g k' j') (getD (set l (g .start k + j) v) (g .start k' + j') 0) 0) (put (view g l) k j v k' j')
+      goal k' j' = _≡_ {A = ℕ} (if (inside g k' j') (getD (set l (g .start k + j) v) (g .start k' + j') 0) 0) (writeByte (view g l) k j v k' j')
 
       go : (k' j' : ℕ) (a : Bool) → inside g k' j' ≡ a → (b : Bool) → eqb k' k ≡ b → (c : Bool) → eqb j' j ≡ c → goal k' j'
       go k' j' a p true q true r = rw (q, r, eqb-true k' k q, eqb-true j' j r, e) (getD-set-same l (g .start k + j) v 0 h)

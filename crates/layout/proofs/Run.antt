@@ -8,27 +8,27 @@ use native.Mathlib.Omega.{arith}
 use lib.ListN.{length, getD, take, drop}
 use lib.Seq.{drop-cons}
 use Rattle.layout.specs.Basics.{valuesFrom}
-use Rattle.layout.specs.Image.{Disk, Geometry, view, put, putRun}
-use Rattle.layout.proofs.Update.{update-same, update-other, put-same, put-other}
+use Rattle.layout.specs.Image.{Disk, Geometry, view, writeByte, writeRun}
+use Rattle.layout.proofs.Update.{update-same, update-other, write-same, write-other}
 use Rattle.layout.proofs.Image.{view-byte}
 
 -- it leaves the other sectors
-pub run-other : (xs : List ℕ) (d : Disk) (k j x : ℕ) → x ≢ k → putRun d k j xs x ≡ d x
-unfolding putRun
+pub run-other : (xs : List ℕ) (d : Disk) (k j x : ℕ) → x ≢ k → writeRun d k j xs x ≡ d x
+unfolding writeRun
 run-other [] d k j x n = refl
-run-other (v ∷ xs) d k j x n = run-other xs (put d k j v) k (j + 1) x n ∙ put-other d k j v x n
+run-other (v ∷ xs) d k j x n = run-other xs (writeByte d k j v) k (j + 1) x n ∙ write-other d k j v x n
 
 -- and the places before it
-run-before : (xs : List ℕ) (d : Disk) (k j i : ℕ) → i < j → putRun d k j xs k i ≡ d k i
-unfolding putRun
+run-before : (xs : List ℕ) (d : Disk) (k j i : ℕ) → i < j → writeRun d k j xs k i ≡ d k i
+unfolding writeRun
 run-before [] d k j i b = refl
-run-before (v ∷ xs) d k j i b = run-before xs (put d k j v) k (j + 1) i (omega arith) ∙ rw (put-same d k j v) (update-other (d k) j v i (λ e. omega arith))
+run-before (v ∷ xs) d k j i b = run-before xs (writeByte d k j v) k (j + 1) i (omega arith) ∙ rw (write-same d k j v) (update-other (d k) j v i (λ e. omega arith))
 
 -- its bytes read back
-pub run-values : (xs : List ℕ) (d : Disk) (k j : ℕ) → valuesFrom (putRun d k j xs k) (length xs) j ≡ xs
-unfolding putRun valuesFrom
+pub run-values : (xs : List ℕ) (d : Disk) (k j : ℕ) → valuesFrom (writeRun d k j xs k) (length xs) j ≡ xs
+unfolding writeRun valuesFrom
 run-values [] d k j = refl
-run-values (v ∷ xs) d k j = rw (run-before xs (put d k j v) k (j + 1) j (omega arith), run-values xs (put d k j v) k (j + 1), put-same d k j v, update-same (d k) j v)
+run-values (v ∷ xs) d k j = rw (run-before xs (writeByte d k j v) k (j + 1) j (omega arith), run-values xs (writeByte d k j v) k (j + 1), write-same d k j v, update-same (d k) j v)
 
 -- a part of the image, within one sector, has that sector's bytes
 pub part-values : (g : Geometry) (n : ℕ) (l : List ℕ) (k j : ℕ) → ((i : ℕ) → i < n → j + i < g .size k) → g .start k + j + n ≤ length l

@@ -2,12 +2,12 @@
 use mathlib.Core.Bool.{Bool, true, false, not, _&&_, _||_}
 use mathlib.Core.List.{List, [], _∷_}
 use mathlib.Core.Path.{_≡_}
-use Prim.Native.Nat.{ℕ, suc, zero, _+_, _*_, _/_, _%_}
+use Prim.Native.Nat.{ℕ, suc, zero, _+_, _*_, _/_, _%_, _<_}
 use lib.Dec.{eqb, ltb}
 use Rattle.layout.specs.declared.Found.{Found}
 use Rattle.layout.specs.declared.Found.the-variants.{At, Nothing}
 use Rattle.layout.specs.Basics.{if, firstFrom, allBelow}
-use Rattle.layout.specs.Image.{Disk, put, word}
+use Rattle.layout.specs.Image.{Disk, writeByte, word}
 use Rattle.layout.specs.Volume.{isSet}
 
 -- byte j of slot s
@@ -15,45 +15,45 @@ abbrev pub entry : Disk → ℕ → ℕ → ℕ
 entry d s j = d (361 + s / 8) (s % 8 * 16 + j)
 
 -- byte j of slot s written
-unfoldable pub putEntry : Disk → ℕ → ℕ → ℕ → Disk
-putEntry d s j v = put d (361 + s / 8) (s % 8 * 16 + j) v
+unfoldable pub writeEntry : Disk → ℕ → ℕ → ℕ → Disk
+writeEntry d s j v = writeByte d (361 + s / 8) (s % 8 * 16 + j) v
 
 -- byte 0: flags
 abbrev pub flag : Disk → ℕ → ℕ
 flag d s = entry d s 0
 
 -- the flags written
-unfoldable pub putFlag : Disk → ℕ → ℕ → Disk
-putFlag d s f = putEntry d s 0 f
+unfoldable pub writeFlag : Disk → ℕ → ℕ → Disk
+writeFlag d s f = writeEntry d s 0 f
 
 -- bytes 1 and 2: sector count
 abbrev pub count : Disk → ℕ → ℕ
 count d s = word (entry d s) 1
 
 -- the sector count written
-unfoldable pub putCount : Disk → ℕ → ℕ → Disk
-putCount d s n = putEntry (putEntry d s 1 (n % 256)) s 2 (n / 256 % 256)
+unfoldable pub writeCount : Disk → ℕ → ℕ → Disk
+writeCount d s n = writeEntry (writeEntry d s 1 (n % 256)) s 2 (n / 256 % 256)
 
 -- bytes 3 and 4: first sector
 abbrev pub first : Disk → ℕ → ℕ
 first d s = word (entry d s) 3
 
 -- the first sector written
-unfoldable pub putFirst : Disk → ℕ → ℕ → Disk
-putFirst d s k = putEntry (putEntry d s 3 (k % 256)) s 4 (k / 256 % 256)
+unfoldable pub writeFirst : Disk → ℕ → ℕ → Disk
+writeFirst d s k = writeEntry (writeEntry d s 3 (k % 256)) s 4 (k / 256 % 256)
 
 -- bytes 5 to 12 name, 13 to 15 extension: byte j of the eleven
 abbrev pub name : Disk → ℕ → ℕ → ℕ
 name d s j = entry d s (5 + j)
 
 -- n bytes of the name w written, from j on
-unfoldable pub putNameFrom : Disk → ℕ → (ℕ → ℕ) → ℕ → ℕ → Disk
-putNameFrom d s w zero j = d
-putNameFrom d s w (suc n) j = putNameFrom (putEntry d s (5 + j) (w j)) s w n (j + 1)
+unfoldable pub writeNameFrom : Disk → ℕ → (ℕ → ℕ) → ℕ → ℕ → Disk
+writeNameFrom d s w zero j = d
+writeNameFrom d s w (suc n) j = writeNameFrom (writeEntry d s (5 + j) (w j)) s w n (j + 1)
 
 -- the eleven bytes of the name w written
-unfoldable pub putName : Disk → ℕ → (ℕ → ℕ) → Disk
-putName d s w = putNameFrom d s w 11 0
+unfoldable pub writeName : Disk → ℕ → (ℕ → ℕ) → Disk
+writeName d s w = writeNameFrom d s w 11 0
 
 -- byte j of the name is that of w
 unfoldable pub sameByte : Disk → ℕ → (ℕ → ℕ) → ℕ → Bool
@@ -72,12 +72,16 @@ unfoldable pub locked : ℕ → Bool
 locked f = isSet f 5
 
 -- $01 open for output
-unfoldable pub output : ℕ → Bool
-output f = isSet f 0
+unfoldable pub outputFlag : ℕ → Bool
+outputFlag f = isSet f 0
 
 -- $40 is set and $80 clear
-unfoldable pub standing : ℕ → Bool
-standing f = isSet f 6 && not (isSet f 7)
+unfoldable pub standingFlag : ℕ → Bool
+standingFlag f = isSet f 6 && not (isSet f 7)
+
+-- slot s is $43; one above 63 is not
+unfoldable pub is43 : Disk → ℕ → Bool
+is43 d s = ltb s 64 && eqb (flag d s) 0x43
 
 -- the flag of slot s is not zero
 unfoldable pub nonzero : Disk → ℕ → Bool
@@ -89,7 +93,7 @@ reached d s = allBelow s (nonzero d)
 
 -- a slot stands when $40 is set, $80 clear and no earlier flag is zero
 unfoldable pub stands : Disk → ℕ → Bool
-stands d s = ltb s 64 && standing (flag d s) && reached d s
+stands d s = ltb s 64 && standingFlag (flag d s) && reached d s
 
 -- a search reads slots in order and stops at the first flag byte of zero, or at a slot that passes
 unfoldable pub stops : Disk → (ℕ → Bool) → ℕ → Bool
@@ -113,6 +117,11 @@ foundSlots Nothing = []
 abbrev pub TellsFound : ℕ → ℕ → Found → Found → Type 0
 TellsFound one none f r = (r ≡ f) × (foundStatus one none r ≡ foundStatus one none f) × (foundSlots r ≡ foundSlots f)
 
+-- a slot found is one of the 64
+abbrev pub Below : Found → Type 0
+Below (At s) = s < 64
+Below Nothing = Unit {0}
+
 -- what follows with the slot found, or without one
 unfoldable pub found : {A : Type 0} → Found → A → (ℕ → A) → A
 found (At s) missing rest = rest s
@@ -120,7 +129,7 @@ found Nothing missing rest = missing
 
 -- slot s, which a search comes to, has the name and stands
 unfoldable pub bears : Disk → (ℕ → ℕ) → ℕ → Bool
-bears d w s = standing (flag d s) && sameName d s w
+bears d w s = standingFlag (flag d s) && sameName d s w
 
 -- the first standing slot with the name is the one found
 unfoldable pub find : Disk → (ℕ → ℕ) → Found

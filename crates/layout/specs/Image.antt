@@ -95,18 +95,18 @@ module _ (g : Geometry) where
   imageOf n d = valuesFrom (λ i. d (g .sectorOf i) (g .placeOf i)) n 0
 
 -- byte j of sector k written
-unfoldable pub put : Disk → ℕ → ℕ → ℕ → Disk
-put d k j v = update d k (update (d k) j v)
+unfoldable pub writeByte : Disk → ℕ → ℕ → ℕ → Disk
+writeByte d k j v = update d k (update (d k) j v)
 
 -- bytes of sector k written, from j on
-unfoldable pub putRun : Disk → ℕ → ℕ → List ℕ → Disk
-putRun d k j [] = d
-putRun d k j (x ∷ xs) = putRun (put d k j x) k (j + 1) xs
+unfoldable pub writeRun : Disk → ℕ → ℕ → List ℕ → Disk
+writeRun d k j [] = d
+writeRun d k j (x ∷ xs) = writeRun (writeByte d k j x) k (j + 1) xs
 
 -- two bytes of a sector, low byte first
 abbrev pub word : Sector → ℕ → ℕ
 word r j = r j + 256 * r (j + 1)
 
 -- a word of sector k written
-unfoldable pub putWord : Disk → ℕ → ℕ → ℕ → Disk
-putWord d k j v = put (put d k j (v % 256)) k (j + 1) (v / 256 % 256)
+unfoldable pub writeWord : Disk → ℕ → ℕ → ℕ → Disk
+writeWord d k j v = writeByte (writeByte d k j (v % 256)) k (j + 1) (v / 256 % 256)

@@ -6,7 +6,7 @@ use lib.Dec.{leb, ltb, eqb}
 use lib.Count.{onesIn}
 use lib.ListN.{length}
 use Rattle.layout.specs.Basics.{if, update, firstFrom, allBelow, countBelow}
-use Rattle.layout.specs.Image.{Sector, Disk, put, word, putWord}
+use Rattle.layout.specs.Image.{Sector, Disk, writeByte, word, writeWord}
 
 -- data sectors are 4 to 359 and 369 to 719
 unfoldable pub dataSector : ℕ → Bool
@@ -50,50 +50,46 @@ onesBelow r zero = 0
 onesBelow r (suc n) = onesBelow r n + onesIn 8 (r (10 + n))
 
 -- the bit of sector k + i is zero
-unfoldable pub usedFrom : Sector → ℕ → ℕ → Bool
-usedFrom r k i = not (free r (k + i))
+unfoldable pub takenFrom : Sector → ℕ → ℕ → Bool
+takenFrom r k i = not (free r (k + i))
 
 -- the table is good: byte 0 and the 707 are right, the bits of 0 to 3 and 360 to 368 are zero, and the free count equals the number of ones in the ninety map bytes
 unfoldable pub good : Sector → Bool
-good r = eqb (r 0) 2 && eqb (word r 1) 707 && allBelow 4 (usedFrom r 0) && allBelow 9 (usedFrom r 360) && eqb (freeCount r) (onesBelow r 90)
+good r = eqb (r 0) 2 && eqb (word r 1) 707 && allBelow 4 (takenFrom r 0) && allBelow 9 (takenFrom r 360) && eqb (freeCount r) (onesBelow r 90)
 
 -- the lowest free sector, or 0
 unfoldable pub lowest : Sector → ℕ
 lowest r = let k = firstFrom (free r) 720 0 in if (eqb k 720) 0 k
 
 -- the bit of sector k set
-unfoldable pub setFree : Disk → ℕ → Disk
-setFree d k = put d 360 (mapByte k) (bitOn (d 360 (mapByte k)) (mapBit k))
+unfoldable pub markFree : Disk → ℕ → Disk
+markFree d k = writeByte d 360 (mapByte k) (bitOn (d 360 (mapByte k)) (mapBit k))
 
 -- the bit of sector k cleared
-unfoldable pub setUsed : Disk → ℕ → Disk
-setUsed d k = put d 360 (mapByte k) (bitOff (d 360 (mapByte k)) (mapBit k))
+unfoldable pub markUsed : Disk → ℕ → Disk
+markUsed d k = writeByte d 360 (mapByte k) (bitOff (d 360 (mapByte k)) (mapBit k))
 
 -- the free count written
-unfoldable pub setFreeCount : Disk → ℕ → Disk
-setFreeCount d n = putWord d 360 3 n
-
--- sector k marked used: its bit, and the free count
-unfoldable pub marked : Disk → ℕ → Disk
-marked d k = setFreeCount (setUsed d k) (freeCount (d 360) - 1)
+unfoldable pub writeFreeCount : Disk → ℕ → Disk
+writeFreeCount d n = writeWord d 360 3 n
 
 -- the bits of several sectors set
 unfoldable pub freeBits : List ℕ → Disk → Disk
 freeBits [] d = d
-freeBits (k ∷ ks) d = freeBits ks (setFree d k)
+freeBits (k ∷ ks) d = freeBits ks (markFree d k)
 
 -- the bits of several sectors cleared
 unfoldable pub useBits : List ℕ → Disk → Disk
 useBits [] d = d
-useBits (k ∷ ks) d = useBits ks (setUsed d k)
+useBits (k ∷ ks) d = useBits ks (markUsed d k)
 
 -- sectors freed: their map bits and the free count
 unfoldable pub freeAll : List ℕ → Disk → Disk
-freeAll ks d = setFreeCount (freeBits ks d) (freeCount (d 360) + length ks)
+freeAll ks d = writeFreeCount (freeBits ks d) (freeCount (d 360) + length ks)
 
 -- sectors marked used: their map bits and the free count
 unfoldable pub useAll : List ℕ → Disk → Disk
-useAll ks d = setFreeCount (useBits ks d) (freeCount (d 360) - length ks)
+useAll ks d = writeFreeCount (useBits ks d) (freeCount (d 360) - length ks)
 
 -- the bit of sector k differs in two tables
 unfoldable pub bitChanged : Sector → Sector → ℕ → Bool

@@ -13,7 +13,7 @@ use layout::status::SUCCESS;
 ghost use mathlib.Core.Path.{_≡_};
 ghost use Prim.Native.Nat.{_+_, _≤_, _<_};
 ghost use lib.ListN.{length};
-ghost use Rattle.layout.specs.Names.{hasDevice, hasUnit, body, nameEnd, wholeEnd, wellFormed, padded, packed, nameByte, nameAt, readAs, readName, oldName, newName, readDevice, nameStatus, TellsName};
+ghost use Rattle.layout.specs.Names.{hasDevice, hasUnit, body, nameEnd, wholeEnd, wellFormed, padded, asWord, nameByte, nameAt, readAs, readName, oldName, newName, readDevice, nameStatus, TellsName};
 ghost use Rattle.chars.specs.Ends.{endsBy};
 
 // `D`, an optional digit, and a colon.
@@ -84,7 +84,7 @@ fn padded(text: &[u8], i: usize, e: usize, j: usize) -> u64
 // The name as a word.
 fn name_word(text: &[u8], i: usize, e: usize) -> u64
     requires { ⌜ (i ≤ 64) × (e ≤ length (now text)) ⌝ }
-    ensures { λ r. ⌜ r ≡ packed (padded (now (text .entry)) i e) 8 ⌝ }
+    ensures { λ r. ⌜ r ≡ asWord (padded (now (text .entry)) i e) 8 ⌝ }
 {
     padded(text, i, e, 0)
         + 256 * padded(text, i, e, 1)
@@ -99,7 +99,7 @@ fn name_word(text: &[u8], i: usize, e: usize) -> u64
 // The extension as a word.
 fn extension_word(text: &[u8], i: usize, e: usize) -> u64
     requires { ⌜ (i ≤ 64) × (e ≤ length (now text)) ⌝ }
-    ensures { λ r. ⌜ r ≡ packed (padded (now (text .entry)) i e) 3 ⌝ }
+    ensures { λ r. ⌜ r ≡ asWord (padded (now (text .entry)) i e) 3 ⌝ }
 {
     padded(text, i, e, 0) + 256 * padded(text, i, e, 1) + 65536 * padded(text, i, e, 2)
 }

@@ -10,7 +10,7 @@ use lib.ListN.{length, take, drop, length-drop}
 use lib.Seq.{length-take-le}
 use Rattle.layout.specs.Image.{Disk, Geometry}
 use Rattle.layout.specs.Volume.{dataSector, free, freeCount, lowest}
-use Rattle.layout.specs.File.{used, give}
+use Rattle.layout.specs.File.{inUse, give}
 use Rattle.layout.proofs.Good.{good-facts, ones-most}
 use Rattle.volume.proofs.Below.{none-at}
 use Rattle.puts.specs.Run.{addRun, chained, settledFrom}
@@ -25,7 +25,7 @@ pub record Chaining (g : Geometry) (s : ℕ) (b : List ℕ) (d₀ : Disk) (p₀ 
   pub kind : dataSector p ≡ true
   pub least : p₀ ≤ p
   pub count : freeCount (d 360) < 65536
-  pub full : g .room ≤ used g (settledFrom g d s p₀ p p)
+  pub full : g .room ≤ inUse g (settledFrom g d s p₀ p p)
   pub searched : Searched (settledFrom g d s p₀ p 360) (p + 1)
   pub puts : Puts g s b d₀ p₀ i₀ (settledFrom g d s p₀ p) p (i₀ + (p - p₀) * g .room)
 
@@ -35,7 +35,7 @@ none-behind i p p₀ r e = let none : p - p₀ ≡ 0 = omega arith in rw none (o
 
 module _ {g : Geometry} {s : ℕ} {b : List ℕ} {d₀ : Disk} {p₀ i₀ : ℕ} where
   -- none was chained yet
-  pub chaining-start : dataSector p₀ ≡ true → i₀ ≤ length b → g .room ≤ used g (d₀ p₀) → Searched (d₀ 360) (p₀ + 1) → Chaining g s b d₀ p₀ i₀ d₀ p₀
+  pub chaining-start : dataSector p₀ ≡ true → i₀ ≤ length b → g .room ≤ inUse g (d₀ p₀) → Searched (d₀ 360) (p₀ + 1) → Chaining g s b d₀ p₀ i₀ d₀ p₀
   chaining-start kind within full t =
       let e = settled-none g s p₀ p₀ d₀ refl in
       let balance = good-facts (d₀ 360) (t .table) .balance in

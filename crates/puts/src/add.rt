@@ -1,30 +1,30 @@
 // Bytes added at a file's end, a sector's run at a time.
 use files::gives::give;
-use image::link::put_link;
-use image::link::put_used;
-use image::link::used;
+use image::link::in_use;
+use image::link::write_in_use;
+use image::link::write_link;
 use image::slot::count;
-use image::slot::put_count;
+use image::slot::write_count;
 use layout::density::Density;
 use layout::density::Medium;
 use layout::status;
 use rules::Added;
 use runs::run::least;
-use runs::run::put_run;
+use runs::run::write_run;
 use volume::lowest::lowest_free;
 use volume::lowest::lowest_from;
 use volume::map::free_count;
 use volume::map::is_free;
 use volume::map::less;
-use volume::map::set_free_count;
-use volume::map::set_used;
+use volume::map::mark_used;
+use volume::map::write_free_count;
 ghost use mathlib.Core.Bool.{true};
 ghost use mathlib.Core.Path.{_≡_};
 ghost use Prim.Native.Nat.{_+_, _-_, _*_, _≤_, _<_};
 ghost use lib.ListN.{length, take, drop};
 ghost use Rattle.layout.specs.Image.{Whole, geometryOf, view};
 ghost use Rattle.layout.specs.Volume.{dataSector, good};
-ghost use Rattle.layout.specs.File.{used};
+ghost use Rattle.layout.specs.File.{inUse};
 ghost use Rattle.rules.specs.Put.{roomFor, putFrom};
 ghost use Rattle.puts.specs.Run.{addRun, chained, settled, settledFrom};
 ghost use Rattle.puts.specs.Come.{Puts};
@@ -44,7 +44,7 @@ fn room(m: Medium, image: &mut [u8], slot: u16, last: u16, from: u16) -> Spot
         × HasRoom (geometryOf m) (view (geometryOf m) (now (image .exit))) (r .sector) × Searched (view (geometryOf m) (now (image .exit)) 360) (r .from) ⌝ }
 {
     let most = m.density.room;
-    if (used(m, image, last) as usize) < most {
+    if (in_use(m, image, last) as usize) < most {
         return Spot { sector: last, from };
     }
     let k = lowest_from(m, image, from as usize / 8);
@@ -60,12 +60,12 @@ fn room(m: Medium, image: &mut [u8], slot: u16, last: u16, from: u16) -> Spot
 
 // Bytes more in a sector that has room for them.
 fn add_run(m: Medium, image: &mut [u8], sector: u16, bytes: &[u8])
-    requires { ⌜ Whole m (now image) × (4 ≤ sector) × (sector ≤ 720) × (used (geometryOf m) (view (geometryOf m) (now image) sector) + length (now bytes) ≤ m .density .room) ⌝ }
+    requires { ⌜ Whole m (now image) × (4 ≤ sector) × (sector ≤ 720) × (inUse (geometryOf m) (view (geometryOf m) (now image) sector) + length (now bytes) ≤ m .density .room) ⌝ }
     ensures { λ _. ⌜ view (geometryOf m) (now (image .exit)) ≡ addRun (geometryOf m) (view (geometryOf m) (now (image .entry))) sector (now (bytes .entry)) ⌝ }
 {
-    let n = used(m, image, sector) as usize;
-    put_run(m, image, sector, n, bytes);
-    put_used(m, image, sector, (n + bytes.len()) as u8);
+    let n = in_use(m, image, sector) as usize;
+    write_run(m, image, sector, n, bytes);
+    write_in_use(m, image, sector, (n + bytes.len()) as u8);
 }
 
 // A free sector chained behind a full one and filled: its map bit, the link to it, its bytes in use and its data. Its own link and both counts are left for later.
@@ -74,10 +74,10 @@ fn chain(m: Medium, image: &mut [u8], slot: u16, prev: u16, sector: u16, bytes: 
     ensures { λ _. ⌜ view (geometryOf m) (now (image .exit)) ≡ chained (geometryOf m) (view (geometryOf m) (now (image .entry))) slot prev sector (now (bytes .entry)) ⌝ }
 {
     let room = m.density.room;
-    set_used(m, image, sector);
-    put_link(m, image, prev, slot, sector);
-    put_used(m, image, sector, room as u8);
-    put_run(m, image, sector, 0, bytes);
+    mark_used(m, image, sector);
+    write_link(m, image, prev, slot, sector);
+    write_in_use(m, image, sector, room as u8);
+    write_run(m, image, sector, 0, bytes);
 }
 
 // The sector after `prev` on the disk, chained and filled. The sectors behind `last` up to `prev` hold the bytes of the buffer from `from` on, and it gets the next ones. Where those begin is worked
@@ -152,7 +152,7 @@ fn chain_free(
     buffer: &[u8],
     from: usize,
 ) -> u16
-    requires { ⌜ Whole m (now image) × (slot < 64) × (dataSector last ≡ true) × (last ≤ end) × (end ≤ 719) × (from + (end - last) * m .density .room ≤ length (now buffer)) × (m .density .room ≤ used (geometryOf m) (view (geometryOf m) (now image) last)) × Searched (view (geometryOf m) (now image) 360) (last + 1) ⌝ }
+    requires { ⌜ Whole m (now image) × (slot < 64) × (dataSector last ≡ true) × (last ≤ end) × (end ≤ 719) × (from + (end - last) * m .density .room ≤ length (now buffer)) × (m .density .room ≤ inUse (geometryOf m) (view (geometryOf m) (now image) last)) × Searched (view (geometryOf m) (now image) 360) (last + 1) ⌝ }
     ensures { λ r. ⌜ (last ≤ r) × (dataSector r ≡ true) × Searched (settledFrom (geometryOf m) (view (geometryOf m) (now (image .exit))) slot last r 360) (r + 1)
         × Puts (geometryOf m) slot (now (buffer .entry)) (view (geometryOf m) (now (image .entry))) last from (settledFrom (geometryOf m) (view (geometryOf m) (now (image .exit))) slot last r) r (from + (r - last) * m .density .room) ⌝ }
 {
@@ -185,11 +185,11 @@ fn settle(m: Medium, image: &mut [u8], slot: u16, last: u16, n: u16)
     requires { ⌜ Whole m (now image) × (slot < 64) × (4 ≤ last) × (last < 720) ⌝ }
     ensures { λ _. ⌜ view (geometryOf m) (now (image .exit)) ≡ settled (geometryOf m) (view (geometryOf m) (now (image .entry))) slot last n ⌝ }
 {
-    put_link(m, image, last, slot, 0);
+    write_link(m, image, last, slot, 0);
     let sectors = count(m, image, slot);
-    put_count(m, image, slot, sectors as u32 + n as u32);
+    write_count(m, image, slot, sectors as u32 + n as u32);
     let had = free_count(m, image);
-    set_free_count(m, image, less(had, n));
+    write_free_count(m, image, less(had, n));
 }
 
 // How far bytes have been added: the last sector, how many of them, and the sector from which the next search goes on.
@@ -228,7 +228,7 @@ fn put_whole(
     if from != last + 1 {
         return come_to(last, at, from);
     }
-    if (used(m, image, last) as usize) < room {
+    if (in_use(m, image, last) as usize) < room {
         return come_to(last, at, from);
     }
     let rest = buffer.len() - at;
@@ -272,7 +272,7 @@ fn put_from(m: Medium, image: &mut [u8], slot: u16, last: u16, buffer: &[u8]) ->
         if k == 0 {
             return added(status::DISK_FULL, i, p);
         }
-        let n = used(m, image, k) as usize;
+        let n = in_use(m, image, k) as usize;
         let e = i + least(most - n, buffer.len() - i);
         add_run(m, image, k, &buffer[i..e]);
         let w = put_whole(m, image, slot, k, buffer, e, spot.from);
@@ -285,7 +285,7 @@ fn put_from(m: Medium, image: &mut [u8], slot: u16, last: u16, buffer: &[u8]) ->
 
 // The same, where the last sector is full and one more has room for all bytes.
 fn put_new(m: Medium, image: &mut [u8], slot: u16, last: u16, buffer: &[u8]) -> Added
-    requires { ⌜ Whole m (now image) × (slot < 64) × (dataSector last ≡ true) × (good (view (geometryOf m) (now image) 360) ≡ true) × (m .density .room ≤ used (geometryOf m) (view (geometryOf m) (now image) last)) × (0 < length (now buffer)) × (length (now buffer) ≤ m .density .room) ⌝ }
+    requires { ⌜ Whole m (now image) × (slot < 64) × (dataSector last ≡ true) × (good (view (geometryOf m) (now image) 360) ≡ true) × (m .density .room ≤ inUse (geometryOf m) (view (geometryOf m) (now image) last)) × (0 < length (now buffer)) × (length (now buffer) ≤ m .density .room) ⌝ }
     ensures { λ r. ⌜ (r ≡ putFrom (geometryOf m) (now (buffer .entry)) (view (geometryOf m) (now (image .entry))) slot last 0 .added)
         × (view (geometryOf m) (now (image .exit)) ≡ putFrom (geometryOf m) (now (buffer .entry)) (view (geometryOf m) (now (image .entry))) slot last 0 .disk) ⌝ }
 {
@@ -305,7 +305,7 @@ pub fn put_some(m: Medium, image: &mut [u8], slot: u16, last: u16, buffer: &[u8]
         × (view (geometryOf m) (now (image .exit)) ≡ putFrom (geometryOf m) (now (buffer .entry)) (view (geometryOf m) (now (image .entry))) slot last 0 .disk) ⌝ }
 {
     let room = m.density.room;
-    let had = used(m, image, last) as usize;
+    let had = in_use(m, image, last) as usize;
     let n = buffer.len();
     if had + n <= room {
         add_run(m, image, last, buffer);

@@ -1,9 +1,9 @@
 // Put on one channel.
 use super::add::put_some;
+use directory::flags::is_43;
 use files::chain::fits;
 use image::link::next;
 use image::slot::count;
-use image::slot::flag;
 use layout::State;
 use layout::density::Medium;
 use layout::status;
@@ -13,25 +13,14 @@ ghost use mathlib.Core.Path.{_≡_};
 ghost use Rattle.layout.specs.Image.{Whole, geometryOf, view};
 ghost use Rattle.layout.specs.declared.State.the-variants.{Writing};
 ghost use Rattle.rules.specs.Get.{advanced};
-ghost use Rattle.rules.specs.Put.{isOutput, writable, putOn};
+ghost use Rattle.rules.specs.Put.{writable, putOn};
 
-// The slot is open for output: $43. A slot above 63 counts as one that is not.
-pub fn is_output(m: Medium, image: &[u8], slot: u16) -> bool
-    requires { ⌜ Whole m (now image) ⌝ }
-    ensures { λ r. ⌜ r ≡ isOutput (view (geometryOf m) (now (image .entry))) slot ⌝ }
-{
-    if 64 <= slot {
-        return false;
-    }
-    flag(m, image, slot) == 0x43
-}
-
-// So is it, with a count of at most 707, and its last sector fits and has next sector 0.
+// The slot is $43, with a count of at most 707, and its last sector fits and has next sector 0.
 fn writable(m: Medium, image: &[u8], slot: u16, last: u16) -> bool
     requires { ⌜ Whole m (now image) ⌝ }
     ensures { λ r. ⌜ r ≡ writable (geometryOf m) (view (geometryOf m) (now (image .entry))) slot last ⌝ }
 {
-    if !is_output(m, image, slot) {
+    if !is_43(m, image, slot) {
         return false;
     }
     if !fits(m, image, slot, last) {

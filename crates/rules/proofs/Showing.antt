@@ -11,7 +11,7 @@ use Rattle.layout.specs.declared.Served.{Served}
 use Rattle.layout.specs.declared.Served.the-variants.{As, Not}
 use Rattle.layout.specs.Image.{Geometry, geometryOf, view}
 use Rattle.layout.specs.Header.{servedAs}
-use Rattle.layout.specs.File.{used, fits}
+use Rattle.layout.specs.File.{inUse, fits}
 use Rattle.layout.proofs.Check.{served-as, served-not}
 use Rattle.layout.proofs.Logic.{and-right}
 use Rattle.layout.proofs.Data.{data-facts}
@@ -25,7 +25,7 @@ pub record Shown (g : Geometry) (l : List ℕ) (s k : ℕ) : Type 0 where
   pub fit : fits g (view g l k) s k ≡ true
   pub low : 4 ≤ k
   pub high : k < 720
-  pub small : used g (view g l k) ≤ g .room
+  pub small : inUse g (view g l k) ≤ g .room
 
 pub enters-true : (g : Geometry) (l : List ℕ) (s k : ℕ) → enters g l s k ≡ true → Shown g l s k
 unfolding enters
@@ -49,7 +49,7 @@ module _ (l : List ℕ) (s k : ℕ) where
     unfolding shownStart
     start-no q = served-as {A = ℕ} (servedAs l) _ _ e ∙ rw q
 
-    pub length-yes : enters (geometryOf m) l s k ≡ true → shownLength l s k ≡ used (geometryOf m) (view (geometryOf m) l k)
+    pub length-yes : enters (geometryOf m) l s k ≡ true → shownLength l s k ≡ inUse (geometryOf m) (view (geometryOf m) l k)
     unfolding shownLength
     length-yes q = served-as {A = ℕ} (servedAs l) _ _ e ∙ rw q
 

@@ -4,7 +4,7 @@ use mathlib.Core.List.{List, [], _∷_}
 use mathlib.Core.Logic.{_≢_, _↔_, _⊎_}
 use mathlib.Core.Path.{_≡_}
 use Prim.Native.Nat.{ℕ, _+_, _/_, _≤_}
-use lib.Dec.{leb, ltb, eqb}
+use lib.Dec.{leb, eqb}
 use lib.ListN.{length, drop}
 use Rattle.layout.specs.declared.State.{State}
 use Rattle.layout.specs.declared.State.the-variants.{Closed, Writing}
@@ -13,12 +13,16 @@ use Rattle.layout.specs.declared.Channel.{Channel}
 use Rattle.layout.specs.declared.density.Medium.{Medium}
 use Rattle.layout.specs.declared.Served.the-variants.{As, Not}
 use Rattle.rules.specs.declared.Block.{Block}
+use Rattle.rules.specs.declared.Transfer.the-variants.{Get, Put}
+use Rattle.rules.specs.declared.FileCommand.the-variants.{Open, Status, Rename, Delete, Lock, Unlock, Format}
+use Rattle.rules.specs.declared.Command.{Command}
+use Rattle.rules.specs.declared.Command.the-variants.{Moves, Close, Files, Unlisted}
 use Rattle.layout.specs.Basics.{check, member}
 use Rattle.layout.specs.Image.{Disk, atrSingle, atrDouble, geometryOf, view}
 use Rattle.layout.specs.Header.{agrees, servedAs}
 use Rattle.layout.specs.Channels.{stateOf, withState}
-use Rattle.layout.specs.Status.{success, badImage, badHeader, badChannel, badCommand, notServed, channelOpen, noChannel, channelClosed, writeOnly, readOnly, badDevice, badUnit, badName, badTable, notFound, fileLocked, fileHeld, badChain, nameTaken, noSlot, diskFull, endOfFile, lostChain, noDevice, badRequest, badLength}
-use Rattle.rules.specs.Cio.{ImageOutcome, cioCall}
+use Rattle.layout.specs.Status.{success, badImage, badHeader, badChannel, notServed, channelOpen, noChannel, channelClosed, writeOnly, readOnly, badDevice, badUnit, badName, badTable, notFound, fileLocked, fileHeld, badChain, nameTaken, noSlot, diskFull, endOfFile, lostChain, noDevice, badRequest, badLength}
+use Rattle.rules.specs.Cio.{ImageOutcome, commandOf, Asks, cioCall}
 use Rattle.rules.specs.Recovery.{recoverCall}
 use Rattle.rules.specs.Sectors.{sectorCall}
 use Rattle.rules.specs.Showing.{shows}
@@ -72,22 +76,25 @@ lockAnswers = success ∷ channelOpen ∷ badDevice ∷ badUnit ∷ badName ∷ 
 abbrev pub formatAnswers : List ℕ
 formatAnswers = success ∷ channelOpen ∷ badDevice ∷ badUnit ∷ badName ∷ fileHeld ∷ []
 
+-- those of a command, by the direction of its block
+unfoldable pub commandAnswers : ℕ → Command → List ℕ
+commandAnswers direction (Moves Get) = getAnswers
+commandAnswers direction (Moves Put) = putAnswers
+commandAnswers direction Close = closeAnswers
+commandAnswers direction (Files Open) = openAnswers direction
+commandAnswers direction (Files Status) = statusAnswers
+commandAnswers direction (Files Rename) = renameAnswers
+commandAnswers direction (Files Delete) = deleteAnswers
+commandAnswers direction (Files Lock) = lockAnswers
+commandAnswers direction (Files Unlock) = lockAnswers
+commandAnswers direction (Files Format) = formatAnswers
+commandAnswers direction (Unlisted status) = status ∷ []
+
 -- those of a CIO call: 134, then by its command
 unfoldable pub answers : Block → List ℕ
 answers c =
     check (leb 8 (c .channel)) (badChannel ∷ []) λ _.
-    check (eqb (c .command) 7) getAnswers λ _.
-    check (eqb (c .command) 3) (openAnswers (c .direction)) λ _.
-    check (eqb (c .command) 11) putAnswers λ _.
-    check (eqb (c .command) 12) closeAnswers λ _.
-    check (eqb (c .command) 13) statusAnswers λ _.
-    check (eqb (c .command) 32) renameAnswers λ _.
-    check (eqb (c .command) 33) deleteAnswers λ _.
-    check (eqb (c .command) 35) lockAnswers λ _.
-    check (eqb (c .command) 36) lockAnswers λ _.
-    check (eqb (c .command) 254) formatAnswers λ _.
-    check (ltb (c .command) 3) (badCommand ∷ []) λ _.
-    notServed ∷ []
+    commandAnswers (c .direction) (commandOf (c .command))
 
 -- those of a recovery
 abbrev pub recoveryAnswers : List ℕ
@@ -126,15 +133,15 @@ pub record Reasons (l : List ℕ) : Type 0 where
   pub only : (n : ℕ) → servedAs l ≡ Not n → (n ≡ badImage) ⊎ (n ≡ badHeader)
 
 -- the partial transfers: get with 136 (file ended) or 164, put with 162; close frees its channel even with 164
-unfoldable pub partials : ℕ → List ℕ
-partials command =
-    check (eqb command 7) (endOfFile ∷ badChain ∷ []) λ _.
-    check (eqb command 11) (diskFull ∷ []) λ _.
-    check (eqb command 12) (badChain ∷ []) λ _.
-    []
+unfoldable pub partials : Command → List ℕ
+partials (Moves Get) = endOfFile ∷ badChain ∷ []
+partials (Moves Put) = diskFull ∷ []
+partials Close = badChain ∷ []
+partials (Files k) = []
+partials (Unlisted status) = []
 
 -- the answer to this command is a refusal, and no partial transfer
-pub record Refusal (command status : ℕ) : Type 0 where
+pub record Refusal (command : Command) (status : ℕ) : Type 0 where
   pub failed : status ≢ success
   pub whole : member status (partials command) ≡ false
 
@@ -147,12 +154,12 @@ pub record Unchanged (l : List ℕ) (t : Table) (b : List ℕ) (o : ImageOutcome
 
 -- a refused call reports no bytes and changes nothing
 pub record Refusals : Type 0 where
-  pub calls : (l : List ℕ) (t : Table) (c : Block) (text b : List ℕ) → let o = cioCall l t c text b in Refusal (c .command) (o .answer .status) → Unchanged l t b o
+  pub calls : (l : List ℕ) (t : Table) (c : Block) (text b : List ℕ) → let o = cioCall l t c text b in Refusal (commandOf (c .command)) (o .answer .status) → Unchanged l t b o
   pub recoveries : (l : List ℕ) (s : ℕ) → let r = recoverCall l s in r .reply .status ≢ success → (r .reply .count ≡ 0) × (r .image ≡ l)
   pub sectors : (l : List ℕ) (device unit command k : ℕ) (b : List ℕ) → let o = sectorCall l device unit command k b in o .reply .status ≢ success → (o .reply .count ≡ 0) × (o .image ≡ l) × (o .buffer ≡ b)
   -- a thin call on one lent record
-  pub thinGets : (l : List ℕ) (c : Channel) (b : List ℕ) → let o = thinGet l c b in Refusal 7 (o .answer .status) → (o .answer .count ≡ 0) × (o .answer .state ≡ c .state) × (o .buffer ≡ b)
-  pub thinPuts : (l : List ℕ) (c : Channel) (b : List ℕ) → let o = thinPut l c b in Refusal 11 (o .answer .status) → (o .answer .count ≡ 0) × (o .answer .state ≡ c .state) × (o .image ≡ l)
+  pub thinGets : (l : List ℕ) (c : Channel) (b : List ℕ) → let o = thinGet l c b in Refusal (Moves Get) (o .answer .status) → (o .answer .count ≡ 0) × (o .answer .state ≡ c .state) × (o .buffer ≡ b)
+  pub thinPuts : (l : List ℕ) (c : Channel) (b : List ℕ) → let o = thinPut l c b in Refusal (Moves Put) (o .answer .status) → (o .answer .count ≡ 0) × (o .answer .state ≡ c .state) × (o .image ≡ l)
   -- the header's writer
   pub headers : (l : List ℕ) → let o = headerCall l in o .reply .status ≢ success → (o .reply .count ≡ 0) × (o .image ≡ l)
 
@@ -176,15 +183,15 @@ OnlyEndOn st l after given = (m : Medium) → servedAs l ≡ As m → let g = ge
 -- what a partial transfer leaves, as every get, put and close does
 pub record Transfers : Type 0 where
   -- a get leaves the image, the rest of the buffer and the other channels
-  pub gets : (l : List ℕ) (t : Table) (c : Block) (text b : List ℕ) → c .command ≡ 7
+  pub gets : (l : List ℕ) (t : Table) (c : Block) (text b : List ℕ) → Asks c (Moves Get)
       → let o = cioCall l t c text b in (o .image ≡ l) × Moved (o .answer .count) (o .buffer) b × OnlyChannel t (c .channel) (o .answer .table)
   pub thinGets : (l : List ℕ) (c : Channel) (b : List ℕ) → let o = thinGet l c b in Moved (o .answer .count) (o .buffer) b
   -- a put leaves the buffer, the other channels and all of the disk but the file's end
-  pub puts : (l : List ℕ) (t : Table) (c : Block) (text b : List ℕ) → c .command ≡ 11
+  pub puts : (l : List ℕ) (t : Table) (c : Block) (text b : List ℕ) → Asks c (Moves Put)
       → let o = cioCall l t c text b in (o .answer .count ≤ length b) × (o .buffer ≡ b) × OnlyChannel t (c .channel) (o .answer .table) × OnlyEndOn (stateOf t (c .channel)) l (o .image) (o .given)
   pub thinPuts : (l : List ℕ) (c : Channel) (b : List ℕ) → let o = thinPut l c b in (o .answer .count ≤ length b) × OnlyEndOn (c .state) l (o .image) (o .given)
   -- a close with 164 frees its channel, and changes nothing else
-  pub closes : (l : List ℕ) (t : Table) (c : Block) (text b : List ℕ) → c .command ≡ 12 → let o = cioCall l t c text b in o .answer .status ≡ badChain → Unchanged l (withState t (c .channel) Closed) b o
+  pub closes : (l : List ℕ) (t : Table) (c : Block) (text b : List ℕ) → Asks c Close → let o = cioCall l t c text b in o .answer .status ≡ badChain → Unchanged l (withState t (c .channel) Closed) b o
 
 -- demand 1: any image of any length, any channels, command block, name, buffer, slot and channel record
 pub record Demand1 : Type 0 where

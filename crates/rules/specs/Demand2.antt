@@ -13,6 +13,10 @@ use Rattle.layout.specs.declared.Name.the-variants.{Is}
 use Rattle.layout.specs.declared.Found.the-variants.{At}
 use Rattle.layout.specs.declared.density.Medium.{Medium}
 use Rattle.rules.specs.declared.Block.{Block}
+use Rattle.rules.specs.declared.Transfer.the-variants.{Get, Put}
+use Rattle.rules.specs.declared.FileCommand.the-variants.{Open, Rename, Delete, Format}
+use Rattle.rules.specs.declared.Command.{Command}
+use Rattle.rules.specs.declared.Command.the-variants.{Moves, Close, Files}
 use Rattle.layout.specs.Basics.{if}
 use Rattle.layout.specs.Image.{Disk, Geometry, geometryOf}
 use Rattle.layout.specs.Directory.{flag, count, find}
@@ -21,23 +25,23 @@ use Rattle.layout.specs.Channels.{stateOf, openAt}
 use Rattle.layout.specs.Names.{nameByte, readName, oldName}
 use Rattle.layout.specs.Status.{success, diskFull, endOfFile}
 use Rattle.rules.specs.Commands.{Effect}
-use Rattle.rules.specs.Cio.{Outcome}
+use Rattle.rules.specs.Cio.{Outcome, isGet, isPut, commandOf, Asks}
 use Rattle.rules.specs.Sound.{Stands, SameName, Sound}
 use Rattle.rules.specs.Lists.{Call, cioOf, recoveryOf, System, Event, Machine, run, events, disks, ImageTable, images, SoundImage}
 
 -- the call is this command on channel i
-abbrev pub On : ℕ → ℕ → Call → Type 0
-On i command (cioOf c text b) = (c .channel ≡ i) × (c .command ≡ command)
+abbrev pub On : ℕ → Command → Call → Type 0
+On i command (cioOf c text b) = (c .channel ≡ i) × Asks c command
 On i command (recoveryOf s) = ⊥
 
 -- no call of the list closes channel i
 abbrev pub StaysOpen : ℕ → List Call → Type 0
 StaysOpen i [] = Unit {0}
-StaysOpen i (c ∷ cs) = (On i 12 c → ⊥) × StaysOpen i cs
+StaysOpen i (c ∷ cs) = (On i Close c → ⊥) × StaysOpen i cs
 
 -- the name that was taken apart is found in slot s
 abbrev pub Finds : Disk → Name → ℕ → Type 0
-Finds d n s = (a : ℕ) × (e : ℕ) × (n ≡ Is a e) × (find d (nameByte a e) ≡ At s)
+Finds d n s = (word : ℕ) × (extension : ℕ) × (n ≡ Is word extension) × (find d (nameByte word extension) ≡ At s)
 
 -- channel i writes slot s
 abbrev pub WritesTo : Table → ℕ → ℕ → Type 0
@@ -53,12 +57,12 @@ AtStart y i s = stateOf (y .table) i ≡ Reading s 0 0 (count (y .disk) s)
 
 -- the bytes that a call with this outcome put on channel i, as many as it reports, also with 162; none where it is no put on this channel
 unfoldable pub putBy : ℕ → Call → Outcome → List ℕ
-putBy i (cioOf c text b) o = if (eqb (c .channel) i && eqb (c .command) 11) (take (o .effect .count) b) []
+putBy i (cioOf c text b) o = if (eqb (c .channel) i && isPut (commandOf (c .command))) (take (o .effect .count) b) []
 putBy i (recoveryOf s) o = []
 
 -- the bytes that it got from channel i, as many as it reports, out of the buffer after it
 unfoldable pub gotBy : ℕ → Call → Outcome → List ℕ
-gotBy i (cioOf c text b) o = if (eqb (c .channel) i && eqb (c .command) 7) (take (o .effect .count) (o .buffer)) []
+gotBy i (cioOf c text b) o = if (eqb (c .channel) i && isGet (commandOf (c .command))) (take (o .effect .count) (o .buffer)) []
 gotBy i (recoveryOf s) o = []
 
 -- those that all calls of a list put on channel i, in order
@@ -73,10 +77,10 @@ gotBytes i (e ∷ es) = gotBy i (e .call) (e .outcome) ++ gotBytes i es
 
 -- a CIO call that found y and had the effect e leaves the file of slot s: it is no open for output and no delete of that file that answers 1, no put on a channel that writes it but one that reports no bytes, and no format that answers 1
 pub record LeavesFile (s : ℕ) (c : Block) (text : List ℕ) (y : System) (e : Effect) : Type 0 where
-  pub opens : c .command ≡ 3 → c .direction ≡ 8 → Finds (y .disk) (readName text) s → e .status ≢ success
-  pub deletes : c .command ≡ 33 → Finds (y .disk) (readName text) s → e .status ≢ success
-  pub puts : c .command ≡ 11 → WritesTo (y .table) (c .channel) s → e .count ≡ 0
-  pub formats : c .command ≡ 254 → e .status ≢ success
+  pub opens : Asks c (Files Open) → c .direction ≡ 8 → Finds (y .disk) (readName text) s → e .status ≢ success
+  pub deletes : Asks c (Files Delete) → Finds (y .disk) (readName text) s → e .status ≢ success
+  pub puts : Asks c (Moves Put) → WritesTo (y .table) (c .channel) s → e .count ≡ 0
+  pub formats : Asks c (Files Format) → e .status ≢ success
 
 -- a call leaves the file of slot s; a recovery leaves every file
 abbrev pub Leaves : ℕ → Call → System → Effect → Type 0
@@ -85,7 +89,7 @@ Leaves s (recoveryOf x) y e = Unit {0}
 
 -- a call leaves the name of that file: it is no rename of it that answers 1
 abbrev pub LeavesName : ℕ → Call → System → Effect → Type 0
-LeavesName s (cioOf c text b) y e = c .command ≡ 32 → Finds (y .disk) (oldName text) s → e .status ≢ success
+LeavesName s (cioOf c text b) y e = Asks c (Files Rename) → Finds (y .disk) (oldName text) s → e .status ≢ success
 LeavesName s (recoveryOf x) y e = Unit {0}
 
 -- every call of the list leaves the file
@@ -127,10 +131,10 @@ module _ (g : Geometry) where
     pub named : SameName (z .disk) s (y .disk) s
     pub bytes : file g (z .disk) s ≡ file g (y .disk) s ++ put
     -- a put on the channel then answers 1 or 162; where it answers 1 it puts all that it was lent
-    pub next : (c : Block) (text b : List ℕ) → On i 11 (cioOf c text b) → let e = does (cioOf c text b) .effect in (e .status ≡ success) ⊎ (e .status ≡ diskFull)
-    pub whole : (c : Block) (text b : List ℕ) → On i 11 (cioOf c text b) → let o = does (cioOf c text b) in o .effect .status ≡ success → putBy i (cioOf c text b) o ≡ b
+    pub next : (c : Block) (text b : List ℕ) → On i (Moves Put) (cioOf c text b) → let e = does (cioOf c text b) .effect in (e .status ≡ success) ⊎ (e .status ≡ diskFull)
+    pub whole : (c : Block) (text b : List ℕ) → On i (Moves Put) (cioOf c text b) → let o = does (cioOf c text b) in o .effect .status ≡ success → putBy i (cioOf c text b) o ≡ b
     -- a close of the channel answers 1 and leaves file and name, and the file is no longer open for output
-    pub closes : (c : Call) → On i 12 c → let e = does c .effect in (e .status ≡ success) × FileKept (z .disk) (e .disk) s × SameName (e .disk) s (y .disk) s × (flag (e .disk) s ≡ 0x42)
+    pub closes : (c : Call) → On i Close c → let e = does c .effect in (e .status ≡ success) × FileKept (z .disk) (e .disk) s × SameName (e .disk) s (y .disk) s × (flag (e .disk) s ≡ 0x42)
 
   -- channel i of y was before the first byte of slot s, whose file has these bytes; a list of calls that did not close it got these from it and left z
   pub record Delivered (bytes : List ℕ) (y z : System) (does : Call → Outcome) (i s : ℕ) (got : List ℕ) : Type 0 where
@@ -143,9 +147,9 @@ module _ (g : Geometry) where
     pub left : List ℕ
     pub begins : bytes ≡ got ++ left
     -- a get from the channel then hands out of that
-    pub next : (c : Block) (text b : List ℕ) → On i 7 (cioOf c text b) → HandsOut left b (does (cioOf c text b))
+    pub next : (c : Block) (text b : List ℕ) → On i (Moves Get) (cioOf c text b) → HandsOut left b (does (cioOf c text b))
     -- and where it answers 136 all of the file was got
-    pub ended : (c : Block) (text b : List ℕ) → On i 7 (cioOf c text b) → let o = does (cioOf c text b) in o .effect .status ≡ endOfFile → got ++ gotBy i (cioOf c text b) o ≡ bytes
+    pub ended : (c : Block) (text b : List ℕ) → On i (Moves Get) (cioOf c text b) → let o = does (cioOf c text b) in o .effect .status ≡ endOfFile → got ++ gotBy i (cioOf c text b) o ≡ bytes
 
   module _ {X : Type 0} (m : Machine X) where
     -- the two over a list of calls made from x on
@@ -163,29 +167,29 @@ module _ (g : Geometry) where
       -- and is found under its name, unless it was renamed
       pub finds : same → Finds (m .system z .disk) (readName text) s
       -- an open for input under the name that it has answers 1 on every closed channel
-      pub opens : (c : Block) (again b : List ℕ) → c .command ≡ 3 → c .direction ≡ 4 → Finds (m .system z .disk) (readName again) s → c .channel < 8 → openAt (m .system z .table) (c .channel) ≡ false
+      pub opens : (c : Block) (again b : List ℕ) → Asks c (Files Open) → c .direction ≡ 4 → Finds (m .system z .disk) (readName again) s → c .channel < 8 → openAt (m .system z .table) (c .channel) ≡ false
           → m .outcome (cioOf c again b) z .effect .status ≡ success
       -- and then gets among any other calls hand out these bytes, from the first to the last
-      pub reads : (c : Block) (again b : List ℕ) → c .command ≡ 3 → c .direction ≡ 4 → Finds (m .system z .disk) (readName again) s → let call = cioOf c again b in m .outcome call z .effect .status ≡ success
+      pub reads : (c : Block) (again b : List ℕ) → Asks c (Files Open) → c .direction ≡ 4 → Finds (m .system z .disk) (readName again) s → let call = cioOf c again b in m .outcome call z .effect .status ≡ success
           → (es : List Call) → StaysOpen (c .channel) es → DeliveredOver put (m .next call z) (c .channel) s es
 
     -- demand 2, from x on
     pub record Demand2 (x : X) : Type 0 where
       -- an open for output that answers 1
-      pub opens : (c : Block) (text b : List ℕ) → c .command ≡ 3 → c .direction ≡ 8 → let call = cioOf c text b in m .outcome call x .effect .status ≡ success → OpenedOutput c text (m .system (m .next call x))
+      pub opens : (c : Block) (text b : List ℕ) → Asks c (Files Open) → c .direction ≡ 8 → let call = cioOf c text b in m .outcome call x .effect .status ≡ success → OpenedOutput c text (m .system (m .next call x))
       -- puts among any other calls, up to the channel's close
       pub puts : (i s : ℕ) → i < 8 → WritesTo (m .system x .table) i s → (cs : List Call) → StaysOpen i cs → StoredOver x i s cs
       -- any calls that leave a standing file: it keeps its bytes, and its name unless it was renamed
       pub keeps : (s : ℕ) → Stands (m .system x .disk) s → (cs : List Call) → LeavesAll s (events m cs x) → FileKept (m .system x .disk) (m .system (run m cs x) .disk) s
       pub names : (s : ℕ) → Stands (m .system x .disk) s → (cs : List Call) → LeavesAll s (events m cs x) → LeavesNameAll s (events m cs x) → SameName (m .system (run m cs x) .disk) s (m .system x .disk) s
       -- an open for input that answers 1
-      pub reopens : (c : Block) (text b : List ℕ) → c .command ≡ 3 → c .direction ≡ 4 → (s : ℕ) → Finds (m .system x .disk) (readName text) s → let call = cioOf c text b in m .outcome call x .effect .status ≡ success
+      pub reopens : (c : Block) (text b : List ℕ) → Asks c (Files Open) → c .direction ≡ 4 → (s : ℕ) → Finds (m .system x .disk) (readName text) s → let call = cioOf c text b in m .outcome call x .effect .status ≡ success
           → (c .channel < 8) × (m .system (m .next call x) .disk ≡ m .system x .disk) × AtStart (m .system (m .next call x)) (c .channel) s
       -- gets among any other calls, up to the channel's close
       pub gets : (i s : ℕ) → i < 8 → AtStart (m .system x) i s → (cs : List Call) → StaysOpen i cs → DeliveredOver (file g (m .system x .disk) s) x i s cs
       -- the whole: an open for output that answers 1, puts among any other calls, the close, which answers 1, and any calls that leave the file
-      pub whole : (c : Block) (text b : List ℕ) → c .command ≡ 3 → c .direction ≡ 8 → let call = cioOf c text b in m .outcome call x .effect .status ≡ success
-          → (s : ℕ) → WritesTo (m .system (m .next call x) .table) (c .channel) s → (cs : List Call) → StaysOpen (c .channel) cs → (close : Call) → On (c .channel) 12 close
+      pub whole : (c : Block) (text b : List ℕ) → Asks c (Files Open) → c .direction ≡ 8 → let call = cioOf c text b in m .outcome call x .effect .status ≡ success
+          → (s : ℕ) → WritesTo (m .system (m .next call x) .table) (c .channel) s → (cs : List Call) → StaysOpen (c .channel) cs → (close : Call) → On (c .channel) Close close
           → let y = run m cs (m .next call x) in let put = putBytes (c .channel) (events m cs (m .next call x)) in
           (m .outcome close y .effect .status ≡ success)
           × ((ds : List Call) → let es = events m ds (m .next close y) in LeavesAll s es → Returns text put s (LeavesNameAll s es) (run m ds (m .next close y)))

@@ -8,11 +8,13 @@ use Rattle.layout.specs.declared.density.Medium.{Medium}
 use Rattle.layout.specs.declared.Served.the-variants.{As}
 use Rattle.layout.specs.declared.Found.the-variants.{Nothing}
 use Rattle.rules.specs.declared.Block.{Block}
+use Rattle.rules.specs.declared.FileCommand.the-variants.{Format}
+use Rattle.rules.specs.declared.Command.the-variants.{Files}
 use Rattle.layout.specs.Image.{Disk, Geometry, geometryOf, view}
 use Rattle.layout.specs.Header.{servedAs}
 use Rattle.layout.specs.Status.{success}
 use Rattle.rules.specs.Commands.{Effect}
-use Rattle.rules.specs.Cio.{Outcome, outcome, ImageOutcome, cio, cioCall}
+use Rattle.rules.specs.Cio.{Outcome, outcome, ImageOutcome, Asks, cio, cioCall}
 use Rattle.rules.specs.Recovery.{Recovered, ImageRecovered, recover, recoverCall}
 use Rattle.rules.specs.Sound.{Sound}
 
@@ -115,5 +117,5 @@ pub record SoundImage (m : Medium) (x : ImageTable) : Type 0 where
 pub record ImageSound (m : Medium) : Type 0 where
   pub kept : (x : ImageTable) → IsServed m x → (cs : List Call) → IsServed m (run (images (geometryOf m)) cs x)
   pub calls : (x : ImageTable) → SoundImage m x → (cs : List Call) → SoundImage m (run (images (geometryOf m)) cs x)
-  pub formats : (x : ImageTable) → IsServed m x → length (x .table .channels) ≡ 8 → (c : Block) (text b : List ℕ) → c .command ≡ 254
+  pub formats : (x : ImageTable) → IsServed m x → length (x .table .channels) ≡ 8 → (c : Block) (text b : List ℕ) → Asks c (Files Format)
       → let call = cioOf c text b in outcomeOn call x .answer .status ≡ success → SoundImage m (afterOn (outcomeOn call x))

@@ -7,7 +7,7 @@ use native.Mathlib.Numerals.{add-one}
 use native.Mathlib.Omega.{arith}
 use lib.ListN.{length, getD, take, drop, set, length-set, drop-of-length-le}
 use lib.Seq.{drop-cons, sets, set-set, set-comm}
-use Rattle.layout.specs.Image.{Geometry, view, putRun}
+use Rattle.layout.specs.Image.{Geometry, view, writeRun}
 use Rattle.layout.proofs.Image.{Lawful, view-set}
 
 -- a turn of a copy stores one byte more, and behind the last nothing is left to store
@@ -47,11 +47,11 @@ sets-over (x ∷ xs) l i (suc n) (suc a) h = let e : i + suc n ≡ suc i + n = o
 module _ (g : Geometry) (lawful : Lawful g) where
   -- bytes stored in the image, within one sector, are bytes of that sector written
   pub view-sets : (xs l : List ℕ) (k j : ℕ) → ((i : ℕ) → i < length xs → j + i < g .size k) → g .start k + j + length xs ≤ length l
-      → view g (sets l (g .start k + j) xs) ≡ putRun (view g l) k j xs
-  unfolding putRun
+      → view g (sets l (g .start k + j) xs) ≡ writeRun (view g l) k j xs
+  unfolding writeRun
   view-sets [] l k j f h = refl
   view-sets (x ∷ xs) l k j f h =
       let here : j < g .size k = rw (add-zero j) at (f 0 (omega arith)) in
       let e : suc (g .start k + j) ≡ g .start k + (j + 1) = omega arith in
       rw e (view-sets xs (set l (g .start k + j) x) k (j + 1) (λ i q. let d : j + 1 + i ≡ j + suc i = omega arith in rw d (f (suc i) (omega arith))) (rw length-set (omega arith))
-      ∙ ap (λ d. putRun d k (j + 1) xs) (view-set g lawful l k j x here (omega arith)))
+      ∙ ap (λ d. writeRun d k (j + 1) xs) (view-set g lawful l k j x here (omega arith)))

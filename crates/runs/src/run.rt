@@ -7,12 +7,12 @@ ghost use Prim.Native.Nat.{_+_, _≤_, _<_};
 ghost use lib.ListN.{length};
 ghost use lib.Seq.{sets};
 ghost use Rattle.layout.specs.Basics.{valuesFrom};
-ghost use Rattle.layout.specs.Image.{Whole, geometryOf, view, putRun};
+ghost use Rattle.layout.specs.Image.{Whole, geometryOf, view, writeRun};
 
 // The bytes of `from` written to a sector, from `place` on.
-pub fn put_run(m: Medium, image: &mut [u8], sector: u16, place: usize, from: &[u8])
+pub fn write_run(m: Medium, image: &mut [u8], sector: u16, place: usize, from: &[u8])
     requires { ⌜ Whole m (now image) × (4 ≤ sector) × (sector ≤ 720) × (place + length (now from) ≤ geometryOf m .size sector) ⌝ }
-    ensures { λ _. ⌜ view (geometryOf m) (now (image .exit)) ≡ putRun (view (geometryOf m) (now (image .entry))) sector place (now (from .entry)) ⌝ }
+    ensures { λ _. ⌜ view (geometryOf m) (now (image .exit)) ≡ writeRun (view (geometryOf m) (now (image .entry))) sector place (now (from .entry)) ⌝ }
 {
     let first = start(m, sector) + place;
     copy(image, first, from);

@@ -7,7 +7,7 @@ ghost use Prim.Native.Nat.{_+_, _*_, _/_, _%_, _≤_, _<_};
 ghost use lib.ListN.{length, getD};
 ghost use Rattle.layout.specs.Image.{Whole, geometryOf, view};
 ghost use Rattle.layout.specs.Directory.{name};
-ghost use Rattle.layout.specs.Names.{packed};
+ghost use Rattle.layout.specs.Names.{asWord};
 ghost use Rattle.runs.specs.Words.{bytesFrom, mapFrom, extension};
 
 // A byte as a number of eight.
@@ -28,7 +28,7 @@ fn wide_at(s: &[u8], i: usize) -> u64
 // Three bytes from i on, the first of them lowest.
 fn word3(s: &[u8], i: usize) -> u64
     requires { ⌜ i + 3 ≤ length (now s) ⌝ }
-    ensures { λ r. ⌜ r ≡ packed (bytesFrom (now (s .entry)) i) 3 ⌝ }
+    ensures { λ r. ⌜ r ≡ asWord (bytesFrom (now (s .entry)) i) 3 ⌝ }
 {
     wide_at(s, i) + 256 * wide_at(s, i + 1) + 65536 * wide_at(s, i + 2)
 }
@@ -36,7 +36,7 @@ fn word3(s: &[u8], i: usize) -> u64
 // Eight of them.
 fn word8(s: &[u8], i: usize) -> u64
     requires { ⌜ i + 8 ≤ length (now s) ⌝ }
-    ensures { λ r. ⌜ r ≡ packed (bytesFrom (now (s .entry)) i) 8 ⌝ }
+    ensures { λ r. ⌜ r ≡ asWord (bytesFrom (now (s .entry)) i) 8 ⌝ }
 {
     wide_at(s, i)
         + 256 * wide_at(s, i + 1)
@@ -49,41 +49,41 @@ fn word8(s: &[u8], i: usize) -> u64
 }
 
 // The eight name bytes of the slot that starts at `at`.
-pub fn name_word_at(m: Medium, image: &[u8], slot: u16, at: usize) -> u64
+pub fn slot_name_at(m: Medium, image: &[u8], slot: u16, at: usize) -> u64
     requires { ⌜ Whole m (now image) × (slot < 64) × (at ≡ geometryOf m .start (361 + slot / 8) + slot % 8 * 16) ⌝ }
-    ensures { λ r. ⌜ r ≡ packed (name (view (geometryOf m) (now (image .entry))) slot) 8 ⌝ }
+    ensures { λ r. ⌜ r ≡ asWord (name (view (geometryOf m) (now (image .entry))) slot) 8 ⌝ }
 {
     word8(image, at + 5)
 }
 
 // The three bytes of its extension.
-pub fn extension_word_at(m: Medium, image: &[u8], slot: u16, at: usize) -> u64
+pub fn slot_extension_at(m: Medium, image: &[u8], slot: u16, at: usize) -> u64
     requires { ⌜ Whole m (now image) × (slot < 64) × (at ≡ geometryOf m .start (361 + slot / 8) + slot % 8 * 16) ⌝ }
-    ensures { λ r. ⌜ r ≡ packed (extension (view (geometryOf m) (now (image .entry))) slot) 3 ⌝ }
+    ensures { λ r. ⌜ r ≡ asWord (extension (view (geometryOf m) (now (image .entry))) slot) 3 ⌝ }
 {
     word3(image, at + 13)
 }
 
 // The eight name bytes of a slot.
-pub fn name_word(m: Medium, image: &[u8], slot: u16) -> u64
+pub fn slot_name(m: Medium, image: &[u8], slot: u16) -> u64
     requires { ⌜ Whole m (now image) × (slot < 64) ⌝ }
-    ensures { λ r. ⌜ r ≡ packed (name (view (geometryOf m) (now (image .entry))) slot) 8 ⌝ }
+    ensures { λ r. ⌜ r ≡ asWord (name (view (geometryOf m) (now (image .entry))) slot) 8 ⌝ }
 {
-    name_word_at(m, image, slot, slot_start(m, slot))
+    slot_name_at(m, image, slot, slot_start(m, slot))
 }
 
 // The three bytes of its extension.
-pub fn extension_word(m: Medium, image: &[u8], slot: u16) -> u64
+pub fn slot_extension(m: Medium, image: &[u8], slot: u16) -> u64
     requires { ⌜ Whole m (now image) × (slot < 64) ⌝ }
-    ensures { λ r. ⌜ r ≡ packed (extension (view (geometryOf m) (now (image .entry))) slot) 3 ⌝ }
+    ensures { λ r. ⌜ r ≡ asWord (extension (view (geometryOf m) (now (image .entry))) slot) 3 ⌝ }
 {
-    extension_word_at(m, image, slot, slot_start(m, slot))
+    slot_extension_at(m, image, slot, slot_start(m, slot))
 }
 
 // Eight map bytes, from byte i of the map on.
 pub fn map_word(m: Medium, image: &[u8], i: usize) -> u64
     requires { ⌜ Whole m (now image) × (i ≤ 82) ⌝ }
-    ensures { λ r. ⌜ r ≡ packed (mapFrom (view (geometryOf m) (now (image .entry)) 360) i) 8 ⌝ }
+    ensures { λ r. ⌜ r ≡ asWord (mapFrom (view (geometryOf m) (now (image .entry)) 360) i) 8 ⌝ }
 {
     word8(image, start(m, 360) + (10 + i))
 }

@@ -11,7 +11,7 @@ use lib.Seq.{sets, sets-eq, drop-length}
 use borrow.Author.Tests.{leb-true}
 use Rattle.layout.specs.declared.density.Medium.{Medium}
 use Rattle.layout.specs.Basics.{valuesFrom}
-use Rattle.layout.specs.Image.{Geometry, Regular, geometryOf, view, putRun}
+use Rattle.layout.specs.Image.{Geometry, Regular, geometryOf, view, writeRun}
 use Rattle.layout.proofs.Image.{Lawful, start-boot, size-boot, values-length}
 use Rattle.layout.proofs.Run.{part-values}
 use Rattle.runs.proofs.Runs.{view-sets}
@@ -49,5 +49,5 @@ module _ (g : Geometry) (w : Lawful g) (l b : List ℕ) (k i : ℕ) (at : i ≡ 
       ap (sets b 0) p ∙ sets-whole b _ (values-length (view g l k) (g .size k) 0 ∙ sym size)
 
   -- and the buffer stored there
-  pub write-whole : view g (sets l i b) ≡ putRun (view g l) k 0 b
+  pub write-whole : view g (sets l i b) ≡ writeRun (view g l) k 0 b
   write-whole = let z : i ≡ g .start k + 0 = omega arith in rw z (view-sets g w b l k 0 (λ j h. omega arith) (omega arith))

@@ -7,7 +7,7 @@ ghost use mathlib.Core.Path.{_≡_};
 ghost use Prim.Native.Nat.{_+_, _≤_};
 ghost use lib.ListN.{length};
 ghost use Rattle.layout.specs.Basics.{valuesFrom};
-ghost use Rattle.layout.specs.Image.{Regular, Whole, geometryOf, view, putRun};
+ghost use Rattle.layout.specs.Image.{Regular, Whole, geometryOf, view, writeRun};
 
 // Where a sector starts.
 pub fn sector_start(m: Medium, sector: u16) -> usize
@@ -44,7 +44,7 @@ pub fn read(m: Medium, image: &[u8], sector: u16, buffer: &mut [u8])
 // All of them written.
 pub fn write(m: Medium, image: &mut [u8], sector: u16, buffer: &[u8])
     requires { ⌜ Whole m (now image) × (1 ≤ sector) × (sector ≤ 720) × (length (now buffer) ≡ geometryOf m .size sector) ⌝ }
-    ensures { λ _. ⌜ view (geometryOf m) (now (image .exit)) ≡ putRun (view (geometryOf m) (now (image .entry))) sector 0 (now (buffer .entry)) ⌝ }
+    ensures { λ _. ⌜ view (geometryOf m) (now (image .exit)) ≡ writeRun (view (geometryOf m) (now (image .entry))) sector 0 (now (buffer .entry)) ⌝ }
 {
     let first = sector_start(m, sector);
     copy_sector(image, first, buffer);

@@ -1,7 +1,7 @@
 // Showing: the bytes in use of one sector, as that part of the lent image.
 use files::chain::fits;
 use image::bytes::start;
-use image::link::used;
+use image::link::in_use;
 use layout::Served;
 use layout::density::Medium;
 use media::served_as;
@@ -57,7 +57,7 @@ pub fn shown_length(image: &[u8], slot: u16, sector: u16) -> usize
     if !enters(m, image, slot, sector) {
         return 0;
     }
-    used(m, image, sector) as usize
+    in_use(m, image, sector) as usize
 }
 
 // The part itself, an empty one at the image's start where the answer is no. No copy: it lies in the same memory as the image (`ptr .0`), `shownStart` bytes behind the image's own place there (`ptr .1`).

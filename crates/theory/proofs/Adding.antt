@@ -14,12 +14,12 @@ use Rattle.layout.specs.Basics.{if, member}
 use Rattle.layout.specs.Image.{Disk, Geometry}
 use Rattle.layout.specs.Volume.{lowest}
 use Rattle.layout.specs.Directory.{count}
-use Rattle.layout.specs.File.{used, give}
-use Rattle.layout.proofs.Check.{by-check}
+use Rattle.layout.specs.File.{inUse, give}
 use Rattle.layout.proofs.Members.{member-left, member-right, member-not}
 use Rattle.layout.proofs.Give.{give-other}
-use Rattle.rules.specs.Put.{Adds, Room, roomIn, roomFor, addByte, putFrom, PutOutcome, putKeeps, puts, putOn}
+use Rattle.rules.specs.Put.{Adds, Room, roomIn, roomFor, addByte, putFrom, PutOutcome, putKeeps, puts}
 use Rattle.rules.specs.Demand1.{OnlyEnd}
+use Rattle.rules.proofs.Acts.{PutEnds, put-closed, put-reading, put-no-table, put-broken, put-none, put-some}
 use Rattle.theory.proofs.Sectors.{add-other}
 
 -- sector k is none of those that a put to slot s writes before it gives out another: the volume table, the slot's sector of the directory, the file's last sector p
@@ -32,7 +32,7 @@ module _ (g : Geometry) (s : ℕ) where
   -- the room for a byte: a sector that is not beside, on a disk that is the same beside
   room-beside : (d : Disk) (p k : ℕ) → Beside s p k → (r : Room) → roomFor g d s p ≡ r → member k (r .given) ≡ false → r .sector ≢ 0 → Beside s (r .sector) k × (r .disk k ≡ d k)
   unfolding roomFor
-  room-beside d p k b r e m n = go (ltb (used g (d p)) (g .room)) (eqb (lowest (d 360)) 0) r e m n
+  room-beside d p k b r e m n = go (ltb (inUse g (d p)) (g .room)) (eqb (lowest (d 360)) 0) r e m n
     where
       go : (c z : Bool) (r : Room) → if c (roomIn p d []) (if z (roomIn 0 d []) (roomIn (lowest (d 360)) (give g d s p (lowest (d 360))) (lowest (d 360) ∷ []))) ≡ r → member k (r .given) ≡ false → r .sector ≢ 0 → Beside s (r .sector) k × (r .disk k ≡ d k)
       go true z r e m n = rw (← e) (b, refl)
@@ -76,20 +76,22 @@ pub record Leaves (st : State) (d : Disk) (b : List ℕ) (o : PutOutcome) : Type
   pub idle : o .answer .count ≡ 0 → o .disk ≡ d
   pub end : OnlyEnd st d (o .disk) (o .given)
 
-pub put-leaves : (g : Geometry) (d : Disk) (st : State) (b : List ℕ) → Leaves st d b (putOn g d st b)
-unfolding putOn puts
-put-leaves g d Closed b = record { few = omega arith; idle = λ _. refl; end = λ s p _ k _ _ _ _. refl }
-put-leaves g d (Reading x k o l) b = record { few = omega arith; idle = λ _. refl; end = λ s p _ k _ _ _ _. refl }
-put-leaves g d (Writing x p) b = by-check L _ _ _ (λ _. none) λ _. by-check L _ _ _ (λ _. none) λ _. by-check L _ _ _ (λ _. none) λ _. some
-  where
-    L : PutOutcome → Type 0
-    L = Leaves (Writing x p) d b
+module _ (g : Geometry) (d : Disk) where
+  -- one that adds no bytes, and one that adds some
+  none : (n : ℕ) (st : State) (b : List ℕ) → Leaves st d b (putKeeps n d st)
+  none n st b = record { few = omega arith; idle = λ _. refl; end = λ s p _ k _ _ _ _. refl }
 
-    none : {n : ℕ} → L (putKeeps n d (Writing x p))
-    none = record { few = omega arith; idle = λ _. refl; end = λ s p _ k _ _ _ _. refl }
+  pub adds-leave : (s p : ℕ) (b : List ℕ) → Leaves (Writing s p) d b (puts s (putFrom g b d s p 0))
+  unfolding puts
+  adds-leave s p b =
+      let o = adding g s b d p 0 in
+      let m = o .most in
+      record { few = omega arith; idle = o .idle; end = λ x q e k v u l. let (h, i) : (s ≡ x) × (p ≡ q) = (cc, cc) in o .beside k (record { volume = v; slots = rw h u; last = rw i l }) }
 
-    some : L (puts x (putFrom g b d x p 0))
-    some =
-        let o = adding g x b d p 0 in
-        let m = o .most in
-        record { few = omega arith; idle = o .idle; end = λ s q e k v u l. let (h, i) : (x ≡ s) × (p ≡ q) = (cc, cc) in o .beside k (record { volume = v; slots = rw h u; last = rw i l }) }
+  pub put-leaves : {st : State} {b : List ℕ} {o : PutOutcome} → PutEnds g d b st o → Leaves st d b o
+  put-leaves {b = b} put-closed = none _ Closed b
+  put-leaves {b = b} (put-reading s k o l) = none _ (Reading s k o l) b
+  put-leaves {b = b} (put-no-table s p q) = none _ (Writing s p) b
+  put-leaves {b = b} (put-broken s p q) = none _ (Writing s p) b
+  put-leaves {b = b} (put-none s p q) = none _ (Writing s p) b
+  put-leaves {b = b} (put-some s p n q r) = adds-leave s p b

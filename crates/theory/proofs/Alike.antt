@@ -7,9 +7,9 @@ use Rattle.layout.specs.File.{file}
 use Rattle.layout.specs.Channels.{openAt}
 use Rattle.layout.specs.Names.{readName}
 use Rattle.rules.specs.Cio.{Outcome}
-use Rattle.rules.specs.Lists.{Call, cioOf, recoveryOf, System, Machine, run, events}
-use Rattle.rules.specs.Demand2.{Finds, WritesTo, AtStart, LeavesAll, LeavesNameAll, OpenedOutput, StoredOver, DeliveredOver, Returns, Demand2}
-use Rattle.rules.specs.Demand3.{SparesAll, Demand3}
+use Rattle.rules.specs.Lists.{Call, cioOf, recoveryOf, System, Event, Machine, run, events}
+use Rattle.rules.specs.Demand2.{Finds, WritesTo, AtStart, LeavesAll, LeavesNameAll, OpenedOutput, Stored, Delivered, putBytes, gotBytes, DeliveredOver, Returns, Demand2}
+use Rattle.rules.specs.Demand3.{SparesAll, givenBy, Recovers, Demand3}
 use Rattle.rules.specs.Sound.{Stands}
 
 module _ {X Y : Type 0} (m : Machine X) (n : Machine Y) where
@@ -45,16 +45,16 @@ module _ {X Y : Type 0} (m : Machine X) (n : Machine Y) where
   same-events [] x y h = refl
   same-events (c ∷ cs) x y h = rw (same-system x y h, same-outcome x y h c, same-events cs (m .next c x) (n .next c y) (alike-next x y h c))
 
-  module _ (g : Geometry) where
-    stored-alike : (x : X) (y : Y) → Alike x y → (i s : ℕ) (cs : List Call) → StoredOver g n y i s cs → StoredOver g m x i s cs
-    stored-alike x y h i s cs k =
-        let h1 = alike-run cs x y h in
-        rw (same-system x y h, same-system (run m cs x) (run n cs y) h1, fun-ext (same-outcome (run m cs x) (run n cs y) h1), same-events cs x y h) k
+  -- so what is said of the disk before a list of calls and behind it, of the outcomes of calls behind it, and of its events
+  over-alike : (P : System → System → (Call → Outcome) → List Event → Type 0) (cs : List Call) (x : X) (y : Y) → Alike x y
+      → (let z = run n cs y in P (n .system y) (n .system z) (λ c. n .outcome c z) (events n cs y)) → let z = run m cs x in P (m .system x) (m .system z) (λ c. m .outcome c z) (events m cs x)
+  over-alike P cs x y h k =
+      let h1 = alike-run cs x y h in
+      rw (same-system x y h, same-system (run m cs x) (run n cs y) h1, fun-ext (same-outcome (run m cs x) (run n cs y) h1), same-events cs x y h) k
 
+  module _ (g : Geometry) where
     delivered-alike : (x : X) (y : Y) → Alike x y → (bytes : List ℕ) (i s : ℕ) (cs : List Call) → DeliveredOver g n bytes y i s cs → DeliveredOver g m bytes x i s cs
-    delivered-alike x y h bytes i s cs k =
-        let h1 = alike-run cs x y h in
-        rw (same-system x y h, same-system (run m cs x) (run n cs y) h1, fun-ext (same-outcome (run m cs x) (run n cs y) h1), same-events cs x y h) k
+    delivered-alike x y h bytes i s cs = over-alike (λ a z does es. Delivered g bytes a z does i s (gotBytes i es)) cs x y h
 
     returns-alike : (x : X) (y : Y) → Alike x y → (text put : List ℕ) (s : ℕ) (same : Type 0) → Returns g n text put s same y → Returns g m text put s same x
     returns-alike x y h text put s same r =
@@ -82,7 +82,7 @@ module _ {X Y : Type 0} (m : Machine X) (n : Machine Y) where
       pub demand2-alike : Demand2 g n y → Demand2 g m x
       demand2-alike d = record {
         opens = λ c text b p q k. let call = cioOf c text b in subst (OpenedOutput g c text) (sym (after-call call)) (d .opens c text b p q (sym (same-status x y h call) ∙ k));
-        puts = λ i s l w cs ns. stored-alike x y h i s cs (d .puts i s l (subst (λ (z : System). WritesTo (z .table) i s) e w) cs ns);
+        puts = λ i s l w cs ns. over-alike (λ a z does es. Stored g a z does i s (putBytes i es)) cs x y h (d .puts i s l (subst (λ (z : System). WritesTo (z .table) i s) e w) cs ns);
         keeps = λ s v cs k. rw (e, after-list cs) (d .keeps s (subst (λ (z : System). Stands (z .disk) s) e v) cs (subst (LeavesAll s) (same-events cs x y h) k));
         names = λ s v cs k l.
             let f = same-events cs x y h in
@@ -114,7 +114,5 @@ module _ {X Y : Type 0} (m : Machine X) (n : Machine Y) where
           let x1 = m .next del x in
           let y1 = n .next del y in
           let h1 = alike-next x y h del in
-          let l = same-events cs x1 y1 h1 in
-          let h2 = alike-run cs x1 y1 h1 in
-          rw (e, l, same-system (run m cs x1) (run n cs y1) h2, same-outcome (run m cs x1) (run n cs y1) h2 (recoveryOf s))
-          (d c text b u w s p q (rw e at f) (sym (same-status x y h del) ∙ k) cs (subst (SparesAll s) l sp))
+          over-alike (λ _ z does es. Recovers g (m .system x .disk) s (givenBy es) z (does (recoveryOf s) .effect)) cs x1 y1 h1
+          (rw e (d c text b u w s p q (rw e at f) (sym (same-status x y h del) ∙ k) cs (subst (SparesAll s) (same-events cs x1 y1 h1) sp)))

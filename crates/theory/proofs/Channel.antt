@@ -4,7 +4,7 @@ use mathlib.Core.List.{List}
 use mathlib.Core.Logic.{_≢_}
 use mathlib.Core.Path.{_≡_, refl, sym, ap, _∙_}
 use Prim.Native.Nat.{ℕ, _≤_, _<_}
-use native.Mathlib.Decide.{ℕ-discrete, decLt}
+use native.Mathlib.Decide.{decLt}
 use native.Mathlib.Omega.{arith}
 use lib.ListN.{length, List·getD-eq-default}
 use borrow.Author.Tests.{eqb-true}
@@ -12,104 +12,82 @@ use Rattle.layout.specs.declared.State.{State}
 use Rattle.layout.specs.declared.State.the-variants.{Closed, Reading, Writing}
 use Rattle.layout.specs.declared.Found.the-variants.{At}
 use Rattle.layout.specs.declared.Name.{Name}
-use Rattle.layout.specs.declared.Name.the-variants.{Is, Refused}
 use Rattle.layout.specs.declared.Table.{Table}
 use Rattle.rules.specs.declared.Block.{Block}
+use Rattle.rules.specs.declared.Transfer.the-variants.{Get, Put}
+use Rattle.rules.specs.declared.FileCommand.the-variants.{Open, Rename, Delete, Format}
+use Rattle.rules.specs.declared.Command.the-variants.{Moves, Close, Files}
 use Rattle.layout.specs.Image.{Disk, Geometry}
 use Rattle.layout.specs.Directory.{find}
 use Rattle.layout.specs.Channels.{channel, stateOf, withState, isOpen, openAt, anyOpen, holds, holdsAt, heldByChannel, held}
-use Rattle.layout.specs.Names.{nameByte, readName, oldName}
+use Rattle.layout.specs.Names.{readName, oldName}
 use Rattle.layout.specs.Status.{success}
-use Rattle.layout.proofs.Channels.{state-other, with-id}
+use Rattle.layout.proofs.Channels.{state-other}
 use Rattle.layout.proofs.Search.{any-at}
-use Rattle.rules.specs.Get.{getOn}
-use Rattle.rules.specs.Put.{putOn}
-use Rattle.rules.specs.Commands.{putAt}
-use Rattle.rules.specs.Cio.{getAt, cio}
+use Rattle.rules.specs.Cio.{Outcome, Asks}
 use Rattle.rules.specs.Lists.{Call, cioOf, recoveryOf, System, perform, outcomeOf}
 use Rattle.rules.specs.Sound.{Sound}
-use Rattle.rules.specs.Demand2.{Finds, LeavesFile}
+use Rattle.rules.specs.Demand2.{Finds}
+use Rattle.rules.proofs.Acts.{Kind, asks, Told, bytes, Aimed, Ends, refuses, reads, reads-none, writes, writes-none, frees, closes, drops, opens, rewrites, makes, tells, renames, deletes, locks, unlocks, formats, restores}
+use Rattle.rules.proofs.Ends.{why-not-one, ends, ends-as}
 use Rattle.theory.proofs.Stays.{Both}
 use Rattle.theory.proofs.SoundRestore.{held-stands}
 use Rattle.theory.proofs.Keeps.{call-keeps}
-use Rattle.theory.proofs.Cases.{Ready, by-cases}
 
 -- the call does not close channel i, and is no get from it while it reads and no put on it while it writes
 pub record Quiet (i : ℕ) (c : Block) (t : Table) : Type 0 where
-  pub closes : c .command ≡ 12 → c .channel ≢ i
-  pub gets : c .command ≡ 7 → c .channel ≡ i → (s k o l : ℕ) → stateOf t i ≢ Reading s k o l
-  pub puts : c .command ≡ 11 → c .channel ≡ i → (s p : ℕ) → stateOf t i ≢ Writing s p
+  pub closes : Asks c Close → c .channel ≢ i
+  pub gets : Asks c (Moves Get) → c .channel ≡ i → (s k o l : ℕ) → stateOf t i ≢ Reading s k o l
+  pub puts : Asks c (Moves Put) → c .channel ≡ i → (s p : ℕ) → stateOf t i ≢ Writing s p
 
-module _ (g : Geometry) (d : Disk) (t : Table) (i : ℕ) (o : openAt t i ≡ true) (c : Block) (text b : List ℕ) (q : Quiet i c t) where
-  -- the call's channel set, where it is another
-  other : (st : State) → c .channel ≢ i → stateOf (withState t (c .channel) st) i ≡ stateOf t i
-  other st n = state-other t (c .channel) st i (λ e. n (sym e))
+-- a recovery is quiet on every channel
+abbrev pub QuietCall : ℕ → Call → Table → Type 0
+QuietCall i (cioOf c text b) t = Quiet i c t
+QuietCall i (recoveryOf s) t = Unit {0}
+
+-- a call that is quiet on an open channel leaves its state
+module _ (g : Geometry) (d : Disk) (t : Table) (i : ℕ) (v : openAt t i ≡ true) where
+  -- the state of another channel is set
+  other : (st : State) {j : ℕ} → j ≢ i → stateOf (withState t j st) i ≡ stateOf t i
+  other st {j = j} n = state-other t j st i (λ e. n (sym e))
 
   -- a closed channel is another
-  shut : openAt t (c .channel) ≡ false → c .channel ≢ i
-  shut h e = true≢false (sym o ∙ ap (openAt t) (sym e) ∙ h)
+  shut : {j : ℕ} → openAt t j ≡ false → j ≢ i
+  shut h e = true≢false (sym v ∙ ap (openAt t) (sym e) ∙ h)
 
-  -- a get or a put on the channel itself finds it in the other direction
-  get-state : c .command ≡ 7 → stateOf (getAt g d t (c .channel) b .effect .table) i ≡ stateOf t i
-  unfolding getAt getOn
-  get-state e = pick (ℕ-discrete (c .channel) i)
-    where
-      go : c .channel ≡ i → (st : State) → stateOf t (c .channel) ≡ st → stateOf (withState t (c .channel) (getOn g d st b .answer .state)) i ≡ stateOf t i
-      go h Closed r = ap (λ u. stateOf u i) (with-id t (c .channel) Closed r)
-      go h (Writing s p) r = ap (λ u. stateOf u i) (with-id t (c .channel) (Writing s p) r)
-      go h (Reading s k p l) r = absurd (q .gets e h s k p l (ap (stateOf t) (sym h) ∙ r))
-
-      pick : Dec (c .channel ≡ i) → stateOf (withState t (c .channel) (getOn g d (stateOf t (c .channel)) b .answer .state)) i ≡ stateOf t i
-      pick (yes h) = go h (stateOf t (c .channel)) refl
-      pick (no n) = other _ n
-
-  put-state : c .command ≡ 11 → stateOf (putAt g d t (c .channel) b .table) i ≡ stateOf t i
-  unfolding putAt putOn
-  put-state e = pick (ℕ-discrete (c .channel) i)
-    where
-      go : c .channel ≡ i → (st : State) → stateOf t (c .channel) ≡ st → stateOf (withState t (c .channel) (putOn g d st b .answer .state)) i ≡ stateOf t i
-      go h Closed r = ap (λ u. stateOf u i) (with-id t (c .channel) Closed r)
-      go h (Reading s k p l) r = ap (λ u. stateOf u i) (with-id t (c .channel) (Reading s k p l) r)
-      go h (Writing s p) r = absurd (q .puts e h s p (ap (stateOf t) (sym h) ∙ r))
-
-      pick : Dec (c .channel ≡ i) → stateOf (withState t (c .channel) (putOn g d (stateOf t (c .channel)) b .answer .state)) i ≡ stateOf t i
-      pick (yes h) = go h (stateOf t (c .channel)) refl
-      pick (no n) = other _ n
-
-  pub cio-state : stateOf (cio g d t c text b .effect .table) i ≡ stateOf t i
-  cio-state = by-cases g d t c text b (λ o. stateOf (o .effect .table) i ≡ stateOf t i) (record {
-    refuses = λ n _. refl;
-    gets = λ _. get-state;
-    puts = λ _. put-state;
-    reads = λ _ _ _ h s _ _. other _ (shut h);
-    replaces = λ _ _ _ h s _ _. other _ (shut h);
-    makes = λ _ _ _ h u w _ _ s _ _. other _ (shut h);
-    shuts = λ _ m _. other Closed (q .closes m);
-    finishes = λ _ m s p _ _. other Closed (q .closes m);
-    breaks = λ _ m s p _ _. other Closed (q .closes m);
-    asks = λ _. refl;
-    renames = λ _ s _ u w _ _. refl;
-    deletes = λ _ s _ _. refl;
-    locks = λ _ s _ _. refl;
-    unlocks = λ _ s _ _. refl;
-    formats = λ _ _. refl;
-  })
+  ends-state : {k : Kind} {c : Call} {o : Outcome} → Ends g d t k c o → QuietCall i c t → stateOf (o .effect .table) i ≡ stateOf t i
+  ends-state (refuses n w m) q = refl
+  ends-state (reads s k o l h) q = other _ (λ e. q .gets (h .on .command) e s k o l (ap (stateOf t) (sym e) ∙ h .state))
+  ends-state (reads-none o e) q = refl
+  ends-state (writes s p h) q = other _ (λ e. q .puts (h .on .command) e s p (ap (stateOf t) (sym e) ∙ h .state))
+  ends-state (writes-none o e) q = refl
+  ends-state (frees o h) q = other _ (q .closes (o .command))
+  ends-state (closes s p h e) q = other _ (q .closes (h .on .command))
+  ends-state (drops s p h e) q = other _ (q .closes (h .on .command))
+  ends-state (opens s h) q = other _ (shut (h .ready .shut))
+  ends-state (rewrites s h) q = other _ (shut (h .ready .shut))
+  ends-state (makes s h) q = other _ (shut (h .ready .shut))
+  ends-state (tells h) q = refl
+  ends-state (renames s h) q = refl
+  ends-state (deletes s h) q = refl
+  ends-state (locks s h) q = refl
+  ends-state (unlocks s h) q = refl
+  ends-state (formats h) q = refl
+  ends-state (restores s h) q = refl
 
 -- there is no channel above 7
 past : (t : Table) (j : ℕ) → length (t .channels) ≡ 8 → 8 ≤ j → stateOf t j ≡ Closed
 unfolding stateOf
 past t j e h = ap (λ c. c .state) (List·getD-eq-default (t .channels) (channel Closed) (omega arith))
 
--- the name n is found in slot x: then it was not refused, and slot x is the one found
-module _ (d : Disk) (x : ℕ) (n : Name) where
-  pub refused-not : Finds d n x → (k : ℕ) → n ≡ Refused k → ⊥
-  refused-not (u, w, q, _) k e = let y : _≡_ {A = ℕ} 0 1 = cc in omega arith
+-- the name that was read is found in slot x
+module _ (d : Disk) (x : ℕ) {n : Name} (r : Told n) where
+  found-there : Finds d n x → find d (bytes r) ≡ At x
+  found-there (u, w, q, f) = let e = r .read in let (h, k) : (r .word ≡ u) × (r .extension ≡ w) = (cc, cc) in rw (h, k) f
 
-  pub found-there : Finds d n x → (u w : ℕ) → n ≡ Is u w → find d (nameByte u w) ≡ At x
-  found-there (u', w', q', f') u w q = let e1 : u ≡ u' = cc in let e2 : w ≡ w' = cc in rw (e1, e2) f'
-
-  pub found-is : Finds d n x → (u w s : ℕ) → n ≡ Is u w → find d (nameByte u w) ≡ At s → s ≡ x
-  found-is k u w s q f = let h = found-there k u w q in cc
+  -- then it is the slot found
+  pub found-is : Finds d n x → {s : ℕ} → find d (bytes r) ≡ At s → s ≡ x
+  found-is k f = let h = found-there k in cc
 
 -- channel i holds slot x
 module _ (g : Geometry) (d : Disk) (t : Table) (a : Sound g d t) (i : ℕ) (z : i < 8) (x : ℕ) (h : holds (stateOf t i) x ≡ true) where
@@ -123,7 +101,7 @@ module _ (g : Geometry) (d : Disk) (t : Table) (a : Sound g d t) (i : ℕ) (z : 
   holds-open (Reading s k o l) e = refl
   holds-open (Writing s p) e = refl
 
-  pub is-open : openAt t i ≡ true
+  is-open : openAt t i ≡ true
   unfolding openAt
   is-open = holds-open (stateOf t i) h
 
@@ -132,78 +110,58 @@ module _ (g : Geometry) (d : Disk) (t : Table) (a : Sound g d t) (i : ℕ) (z : 
   some-open = any-at (openAt t) 8 i z is-open
 
   -- a slot found under a name that is found in slot x is not free to change
-  not-free : (n : Name) → Finds d n x → (s : ℕ) → Ready d t n s → ⊥
-  not-free n k s r = let l = r .located in true≢false (sym is-held ∙ ap (held d t) (sym (found-is d x n k (l .word) (l .extension) s (l .read) (l .found))) ∙ r .unheld)
+  not-free : {n : Name} {s : ℕ} → Aimed g d t n s → held d t s ≡ false → Finds d n x → ⊥
+  not-free h u k = true≢false (sym is-held ∙ ap (held d t) (sym (found-is d x (h .told) k (h .at))) ∙ u)
 
-  module _ (c : Block) (text : List ℕ) where
-    -- no other channel writes it
-    put-held : (j p : ℕ) → stateOf t j ≡ Writing x p → j ≡ i
-    put-held j p e = go (decLt j 8) (stateOf t i) refl h
-      where
-        go : Dec (j < 8) → (st : State) → stateOf t i ≡ st → holds st x ≡ true → j ≡ i
-        go (no n) st r k = absurd (let q = past t j (a .eight) (omega arith) in let y : _≡_ {A = ℕ} 0 1 = cc in omega arith)
-        go (yes m) Closed r k = absurd (true≢false (sym k))
-        go (yes m) (Reading s q o l) r k = absurd (a .reading i s q o l z r .1 (rw (eqb-true s x k) (a .writing j x p m e .1)))
-        go (yes m) (Writing s q) r k = a .once j i x p q m z e (r ∙ ap (λ y. Writing y q) (eqb-true s x k))
+  -- no other channel writes it
+  put-held : (j p : ℕ) → stateOf t j ≡ Writing x p → j ≡ i
+  put-held j p e = go (decLt j 8) (stateOf t i) refl h
+    where
+      go : Dec (j < 8) → (st : State) → stateOf t i ≡ st → holds st x ≡ true → j ≡ i
+      go (no n) st r k = absurd (let q = past t j (a .eight) (omega arith) in let y : _≡_ {A = ℕ} 0 1 = cc in omega arith)
+      go (yes m) Closed r k = absurd (true≢false (sym k))
+      go (yes m) (Reading s q o l) r k = absurd (a .reading i s q o l z r .1 (rw (eqb-true s x k) (a .writing j x p m e .1)))
+      go (yes m) (Writing s q) r k = a .once j i x p q m z e (r ∙ ap (λ y. Writing y q) (eqb-true s x k))
 
-    -- what a call that answers 1 is not
-    record Spared : Type 0 where
-      opens : c .command ≡ 3 → c .direction ≡ 8 → Finds d (readName text) x → ⊥
-      deletes : c .command ≡ 33 → Finds d (readName text) x → ⊥
-      renames : c .command ≡ 32 → Finds d (oldName text) x → ⊥
-      formats : c .command ≡ 254 → ⊥
+  -- so no call that opens for output, deletes or renames it, or formats, answers 1
+  module _ {c : Block} {text b : List ℕ} where
+    no-open : {o : Outcome} → Ends g d t (asks (Files Open)) (cioOf c text b) o → c .direction ≡ 8 → Finds d (readName text) x → o .effect .status ≢ success
+    no-open (refuses n w m) e k = why-not-one w
+    no-open (opens s p) e k = λ _. let f = p .direction in omega arith
+    no-open (rewrites s p) e k = λ _. not-free (p .aim) (p .unheld) k
+    no-open (makes s p) e k = λ _. let f = found-there d x (p .told) k in let h = p .missing in let y : _≡_ {A = ℕ} 0 1 = cc in omega arith
 
-    -- one of another command
-    only : (n : ℕ) → c .command ≡ n → (n ≢ 3) × (n ≢ 33) × (n ≢ 32) × (n ≢ 254) → Spared
-    only n m (p, q, r, f) = record { opens = λ e _ _. p (sym m ∙ e); deletes = λ e _. q (sym m ∙ e); renames = λ e _. r (sym m ∙ e); formats = λ e. f (sym m ∙ e) }
+    no-delete : {o : Outcome} → Ends g d t (asks (Files Delete)) (cioOf c text b) o → Finds d (readName text) x → o .effect .status ≢ success
+    no-delete (refuses n w m) k = why-not-one w
+    no-delete (deletes s p) k = λ _. not-free (p .aim) (p .unheld) k
 
-    spared : (b : List ℕ) → cio g d t c text b .effect .status ≡ success → Spared
-    unfolding putAt getAt
-    spared b = by-cases g d t c text b (λ o. o .effect .status ≡ success → Spared) (record {
-      refuses = λ n w h. absurd (w h);
-      gets = λ _ m _. only 7 m (omega arith);
-      puts = λ _ m _. only 11 m (omega arith);
-      reads = λ _ m n _ s _ _ _. record { opens = λ _ e _. omega arith; deletes = λ e _. omega arith; renames = λ e _. omega arith; formats = λ e. omega arith };
-      replaces = λ _ m n _ s r _ _. record { opens = λ _ _ k. not-free (readName text) k s r; deletes = λ e _. omega arith; renames = λ e _. omega arith; formats = λ e. omega arith };
-      makes = λ _ m n _ u w r f s _ _ _.
-          record { opens = λ _ _ k. let h = found-there d x (readName text) k u w r in let y : _≡_ {A = ℕ} 0 1 = cc in omega arith; deletes = λ e _. omega arith; renames = λ e _. omega arith; formats = λ e. omega arith };
-      shuts = λ _ m _ _. only 12 m (omega arith);
-      finishes = λ _ m s p _ _ _. only 12 m (omega arith);
-      breaks = λ _ m s p _ _ _. only 12 m (omega arith);
-      asks = λ m _. only 13 m (omega arith);
-      renames = λ m s r u w _ _ _. record { opens = λ e _ _. omega arith; deletes = λ e _. omega arith; renames = λ _ k. not-free (oldName text) k s r; formats = λ e. omega arith };
-      deletes = λ m s r _ _. record { opens = λ e _ _. omega arith; deletes = λ _ k. not-free (readName text) k s r; renames = λ e _. omega arith; formats = λ e. omega arith };
-      locks = λ m s _ _ _. only 35 m (omega arith);
-      unlocks = λ m s _ _ _. only 36 m (omega arith);
-      formats = λ m o _. absurd (true≢false (sym some-open ∙ o));
-    })
+    no-rename : {o : Outcome} → Ends g d t (asks (Files Rename)) (cioOf c text b) o → Finds d (oldName text) x → o .effect .status ≢ success
+    no-rename (refuses n w m) k = why-not-one w
+    no-rename (renames s p) k = λ _. not-free (p .aim) (p .unheld) k
 
-    module _ (b : List ℕ) (q : Quiet i c t) where
-      held-leaves : LeavesFile x c text (record { disk = d; table = t }) (cio g d t c text b .effect)
-      held-leaves = record {
-        opens = λ m n k s. spared b s .opens m n k;
-        deletes = λ m k s. spared b s .deletes m k;
-        puts = λ m (p, k). let r = put-held (c .channel) p k in absurd (q .puts m r x p (ap (stateOf t) (sym r) ∙ k));
-        formats = λ m s. spared b s .formats m;
-      }
-
-      held-name : c .command ≡ 32 → Finds d (oldName text) x → cio g d t c text b .effect .status ≢ success
-      held-name m k s = spared b s .renames m k
+    no-format : {o : Outcome} → Ends g d t (asks (Files Format)) (cioOf c text b) o → o .effect .status ≢ success
+    no-format (refuses n w m) = why-not-one w
+    no-format (formats p) = λ _. true≢false (sym some-open ∙ p .none)
 
 -- so every call that is quiet on the channel leaves its state, its file and the file's name
-abbrev pub QuietCall : ℕ → Call → System → Type 0
-QuietCall i (cioOf c text b) y = Quiet i c (y .table)
-QuietCall i (recoveryOf s) y = Unit {0}
-
 module _ (g : Geometry) (roomy : 0 < g .room) (y : System) (a : Sound g (y .disk) (y .table)) (i : ℕ) (z : i < 8) (x : ℕ) (h : holds (stateOf (y .table) i) x ≡ true) where
-  pub quiet-state : (c : Call) → QuietCall i c y → stateOf (perform g c y .table) i ≡ stateOf (y .table) i
-  unfolding outcomeOf
-  quiet-state (cioOf c text b) q = cio-state g (y .disk) (y .table) i (is-open g (y .disk) (y .table) a i z x h) c text b q
-  quiet-state (recoveryOf s) q = refl
+  abbrev d : Disk
+  d = y .disk
 
-  pub quiet-keeps : (c : Call) → QuietCall i c y → Both g (y .disk) (perform g c y .disk) x
+  abbrev t : Table
+  t = y .table
+
+  pub quiet-state : (c : Call) → QuietCall i c t → stateOf (perform g c y .table) i ≡ stateOf t i
+  quiet-state c q = ends-state g d t i (is-open g d t a i z x h) (ends g c y) q
+
+  pub quiet-keeps : (c : Call) → QuietCall i c t → Both g d (perform g c y .disk) x
   unfolding outcomeOf
   quiet-keeps (cioOf c text b) q =
-      let (p, n) = call-keeps g roomy (cioOf c text b) y a x (held-stands g (y .disk) (y .table) a x i z h) (held-leaves g (y .disk) (y .table) a i z x h c text b q) in
-      (p, n (held-name g (y .disk) (y .table) a i z x h c text b q))
-  quiet-keeps (recoveryOf s) q = let (p, n) = call-keeps g roomy (recoveryOf s) y a x (held-stands g (y .disk) (y .table) a x i z h) tt in (p, n tt)
+      let (p, n) = call-keeps g roomy (cioOf c text b) y a x (held-stands g d t a x i z h) (record {
+        opens = λ m n k. no-open g d t a i z x h (ends-as g d t c text b _ m) n k;
+        deletes = λ m k. no-delete g d t a i z x h (ends-as g d t c text b _ m) k;
+        puts = λ m (p, k). let r = put-held g d t a i z x h (c .channel) p k in absurd (q .puts m r x p (ap (stateOf t) (sym r) ∙ k));
+        formats = λ m. no-format g d t a i z x h (ends-as g d t c text b _ m);
+      }) in
+      (p, n (λ m k. no-rename g d t a i z x h (ends-as g d t c text b _ m) k))
+  quiet-keeps (recoveryOf s) q = let (p, n) = call-keeps g roomy (recoveryOf s) y a x (held-stands g d t a x i z h) tt in (p, n tt)

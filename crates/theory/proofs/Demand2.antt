@@ -5,74 +5,65 @@ use mathlib.Core.List.{List, _++_}
 use mathlib.Core.Path.{_≡_, refl, sym, ap, _∙_, subst}
 use Prim.Native.Nat.{ℕ, _<_}
 use native.Mathlib.Omega.{arith}
-use borrow.Author.Tests.{eqb-false}
 use Rattle.layout.specs.declared.State.the-variants.{Reading}
 use Rattle.layout.specs.declared.Table.{Table}
 use Rattle.rules.specs.declared.Block.{Block}
+use Rattle.rules.specs.declared.FileCommand.the-variants.{Open}
+use Rattle.rules.specs.declared.Command.the-variants.{Close, Files}
 use Rattle.layout.specs.Image.{Disk, Geometry}
 use Rattle.layout.specs.Directory.{flag, count}
 use Rattle.layout.specs.File.{file}
-use Rattle.layout.specs.Channels.{stateOf, withState, openAt, allOpen}
+use Rattle.layout.specs.Channels.{stateOf, openAt}
 use Rattle.layout.specs.Names.{nameByte, readName}
 use Rattle.layout.specs.Status.{success}
-use Rattle.layout.proofs.Check.{check-yes, check-no, named-is, found-at, by-check, by-name, by-found}
-use Rattle.layout.proofs.Search.{all-fails}
-use Rattle.rules.specs.Commands.{Effect, openRead, openCall}
-use Rattle.rules.specs.Cio.{cio}
+use Rattle.rules.specs.Cio.{Outcome, Asks}
 use Rattle.rules.specs.Lists.{Call, cioOf, System, after, perform, outcomeOf, run, events, disks}
 use Rattle.rules.specs.Sound.{Stands, Sound}
 use Rattle.rules.specs.Demand2.{Finds, WritesTo, AtStart, On, StaysOpen, LeavesAll, LeavesNameAll, putBytes, DeliveredOver, Returns, DiskDemand2}
+use Rattle.rules.proofs.Acts.{asks, Ends, refuses, opens, rewrites, makes}
+use Rattle.rules.proofs.Ends.{why-not-one, ends-as}
+use Rattle.rules.proofs.Does.{does-open}
 use Rattle.theory.proofs.Standing.{stands-slot, stands-flag, bytes-same, same-bytes}
 use Rattle.theory.proofs.SoundChan.{state-at}
 use Rattle.theory.proofs.SoundCommands.{plain-flag, plain-sound}
 use Rattle.theory.proofs.SoundCalls.{call-sound, calls-sound}
-use Rattle.theory.proofs.Rows.{row-open}
-use Rattle.theory.proofs.Written.{small}
 use Rattle.theory.proofs.Stays.{Stays, Named, stays-file}
 use Rattle.theory.proofs.Find.{find-at}
 use Rattle.theory.proofs.Shut.{find-is}
 use Rattle.theory.proofs.Keeps.{calls-keep, kept-file}
-use Rattle.theory.proofs.Channel.{refused-not, found-is}
+use Rattle.theory.proofs.Channel.{found-is}
 use Rattle.theory.proofs.PutCalls.{opened-output, put-calls}
 use Rattle.theory.proofs.GetCalls.{get-calls}
 
--- an open for input that answers 1 of a name found in slot s
+-- an open for input of a name found in slot s
 module _ (g : Geometry) (x : System) (a : Sound g (x .disk) (x .table)) (c : Block) (text b : List ℕ) (s : ℕ) (k : Finds (x .disk) (readName text) s) where
-  abbrev D : Effect → Type 0
-  D e = e .status ≡ success → (e .disk ≡ x .disk) × (stateOf (e .table) (c .channel) ≡ Reading s 0 0 (count (x .disk) s))
+  abbrev d : Disk
+  d = x .disk
 
-  there : c .channel < 8 → (v : ℕ) → v ≡ s → stateOf (withState (x .table) (c .channel) (Reading v 0 0 (count (x .disk) v))) (c .channel) ≡ Reading s 0 0 (count (x .disk) s)
-  there z v e = state-at g (x .disk) (x .table) a (c .channel) z _ ∙ rw e
+  abbrev t : Table
+  t = x .table
 
-  open-input : c .channel < 8 → c .direction ≡ 4 → D (openCall g (x .disk) (x .table) c text)
-  unfolding openCall openRead
-  open-input z e = by-check D _ _ _ (λ _ h. absurd (omega arith)) λ _. by-check D _ _ _ (λ _ h. absurd (omega arith)) λ _.
-      by-check D _ _ _ (λ _. by-name D _ _ _ (λ n q _. absurd (refused-not (x .disk) s (readName text) k n q)) λ u w q. by-found D _ _ _ (λ _ h. absurd (omega arith)) λ v f. by-check D _ _ _ (λ _ h. absurd (omega arith)) λ _ _.
-      (refl, there z v (found-is (x .disk) s (readName text) k u w v q f)))
-      λ q. absurd (eqb-false (c .direction) 4 q e)
+  -- one that answers 1
+  opened : {o : Outcome} → Ends g d t (asks (Files Open)) (cioOf c text b) o → c .direction ≡ 4 → o .effect .status ≡ success → (c .channel < 8) × (o .effect .disk ≡ d) × (stateOf (o .effect .table) (c .channel) ≡ Reading s 0 0 (count d s))
+  opened (refuses n w m) e h = absurd (why-not-one w h)
+  opened (opens v p) e h = let z = p .ready .on .small in (z, refl, state-at g d t a (c .channel) z _ ∙ rw (found-is d s (p .told) k (p .at)))
+  opened (rewrites v p) e h = absurd (let f = p .direction in omega arith)
+  opened (makes v p) e h = absurd (let f = p .direction in omega arith)
 
-  -- it answers 1 where the slot is not open for output and the channel is closed
-  input-opens : flag (x .disk) s ≢ 0x43 → c .command ≡ 3 → c .direction ≡ 4 → c .channel < 8 → openAt (x .table) (c .channel) ≡ false → perform g (cioOf c text b) x .status ≡ success
-  unfolding outcomeOf openCall openRead allOpen
-  input-opens n m e z f =
-      let (u, w, q, r) = k in
-      let v = find-at (x .disk) (nameByte u w) s r .0 in
-      let p = plain-flag (flag (x .disk) s) (a .flags s (stands-slot (x .disk) s v)) (stands-flag (x .disk) s v) n in
-      ap (λ (o : Effect). o .status) (row-open g (x .disk) (x .table) c text b z m
-      ∙ check-no {A = Effect} _ _ _ f
-      ∙ check-no {A = Effect} _ _ _ (all-fails (openAt (x .table)) 8 (c .channel) z f)
-      ∙ check-yes {A = Effect} _ _ _ (rw e)
-      ∙ named-is {A = Effect} _ _ _ q
-      ∙ found-at {A = Effect} _ _ _ r
-      ∙ check-no {A = Effect} _ _ _ (plain-sound (flag (x .disk) s) p .3))
-
-  pub opened-input : c .command ≡ 3 → c .direction ≡ 4 → let e = perform g (cioOf c text b) x in e .status ≡ success → (c .channel < 8) × (e .disk ≡ x .disk) × AtStart (after e) (c .channel) s
+  opened-input : Asks c (Files Open) → c .direction ≡ 4 → let e = perform g (cioOf c text b) x in e .status ≡ success → (c .channel < 8) × (e .disk ≡ x .disk) × AtStart (after e) (c .channel) s
   unfolding outcomeOf
   opened-input m n h =
-      let z = small g x a c text b h in
-      let r : D (cio g (x .disk) (x .table) c text b .effect) = rw (row-open g (x .disk) (x .table) c text b z m) (open-input z n) in
-      let (p, q) = r h in
+      let (z, p, q) = opened (ends-as g d t c text b _ m) n h in
       (z, p, q ∙ ap (λ (d : Disk). Reading s 0 0 (count d s)) (sym p))
+
+  -- it answers 1 where the slot is not open for output and the channel is closed
+  input-opens : flag d s ≢ 0x43 → Asks c (Files Open) → c .direction ≡ 4 → c .channel < 8 → openAt t (c .channel) ≡ false → perform g (cioOf c text b) x .status ≡ success
+  unfolding outcomeOf
+  input-opens n m e z f =
+      let (u, w, q, r) = k in
+      let v = find-at d (nameByte u w) s r .0 in
+      let p = plain-flag (flag d s) (a .flags s (stands-slot d s v)) (stands-flag d s v) n in
+      rw (does-open g d t c text b s (record { ready = record { on = record { small = z; command = m }; shut = f }; direction = e; told = record { word = u; extension = w; read = q }; at = r; quiet = plain-sound (flag d s) p .3 }))
 
 -- a channel writes one slot
 slot-is : (t : Table) (i x s : ℕ) → WritesTo t i x → WritesTo t i s → x ≡ s
@@ -114,8 +105,8 @@ module _ (g : Geometry) (roomy : 0 < g .room) where
           subst (λ r. DeliveredOver g (disks g) r (after (perform g call z)) (c .channel) s es) (ap (λ (d : Disk). file g d s) d ∙ same) (get-calls g roomy (after (perform g call z)) (call-sound g roomy call z a2) (c .channel) s l at es ns);
     }
 
-  whole : (x : System) → Sound g (x .disk) (x .table) → (c : Block) (text b : List ℕ) → c .command ≡ 3 → c .direction ≡ 8 → let call = cioOf c text b in perform g call x .status ≡ success
-      → (s : ℕ) → WritesTo (perform g call x .table) (c .channel) s → (cs : List Call) → StaysOpen (c .channel) cs → (close : Call) → On (c .channel) 12 close
+  whole : (x : System) → Sound g (x .disk) (x .table) → (c : Block) (text b : List ℕ) → Asks c (Files Open) → c .direction ≡ 8 → let call = cioOf c text b in perform g call x .status ≡ success
+      → (s : ℕ) → WritesTo (perform g call x .table) (c .channel) s → (cs : List Call) → StaysOpen (c .channel) cs → (close : Call) → On (c .channel) Close close
       → let y0 = after (perform g call x) in
       let y1 = run (disks g) cs y0 in
       let y2 = after (perform g close y1) in

@@ -4,19 +4,20 @@ use mathlib.Core.List.{List, [], _∷_, _++_, append-assoc}
 use mathlib.Core.Path.{_≡_, refl, sym, ap, _∙_}
 use Prim.Native.Nat.{ℕ, _<_}
 use native.Mathlib.Omega.{arith}
-use lib.Dec.{eqb, leb}
+use lib.Dec.{leb}
 use lib.ListN.{length, take, drop, take-append-drop, length-take}
 use lib.Seq.{take-all, take-append-seam}
-use borrow.Author.Tests.{eqb-true, eqb-false, eq-eqb, leb-false}
+use borrow.Author.Tests.{leb-false}
 use Rattle.layout.specs.declared.State.the-variants.{Writing}
-use Rattle.rules.specs.declared.Block.{Block}
+use Rattle.rules.specs.declared.Transfer.the-variants.{Get}
+use Rattle.rules.specs.declared.Command.the-variants.{Moves, Close}
 use Rattle.layout.specs.Basics.{if}
 use Rattle.layout.specs.Image.{Disk, Geometry}
 use Rattle.layout.specs.Directory.{count}
 use Rattle.layout.specs.File.{chain, file}
 use Rattle.layout.specs.Channels.{stateOf}
 use Rattle.layout.specs.Status.{success, endOfFile}
-use Rattle.rules.specs.Cio.{Outcome, cio, getAt}
+use Rattle.rules.specs.Cio.{Outcome}
 use Rattle.rules.specs.Lists.{Call, cioOf, recoveryOf, System, after, perform, run, disks, outcomeOf, events}
 use Rattle.rules.specs.Sound.{Stands, OnPlace, before, on, Sound}
 use Rattle.rules.specs.Demand2.{On, HandsOut, StaysOpen, AtStart, gotBy, gotBytes, DeliveredOver}
@@ -27,8 +28,8 @@ use Rattle.theory.proofs.Reading.{member-behind, rest, rest-before, res
 use Rattle.theory.proofs.Stays.{Stays, Both, both-none, both-join, stays-file}
 use Rattle.theory.proofs.SoundChange.{reads-holds}
 use Rattle.theory.proofs.SoundCalls.{call-sound}
-use Rattle.theory.proofs.Rows.{row-get}
-use Rattle.theory.proofs.Reader.{Reads, get-at}
+use Rattle.theory.proofs.Moving.{Moving, moves, rests, moving-all, got-moving}
+use Rattle.theory.proofs.Reader.{Reads, get-call}
 use Rattle.theory.proofs.Channel.{QuietCall, quiet-state, quiet-keeps}
 
 -- what is left of a file that stays is what was left
@@ -52,7 +53,7 @@ got-all r b o h e = go (leb (length b) (length r)) refl (sym (h .status) ∙ e)
 
 module _ (g : Geometry) (roomy : 0 < g .room) (i s : ℕ) (z : i < 8) where
   -- a call that is no get from the channel and does not close it
-  quiet-reads : (c : Call) (r : List ℕ) (y : System) → Reads g s r y i → QuietCall i c y → Reads g s r (after (perform g c y)) i × Both g (y .disk) (perform g c y .disk) s
+  quiet-reads : (c : Call) (r : List ℕ) (y : System) → Reads g s r y i → QuietCall i c (y .table) → Reads g s r (after (perform g c y)) i × Both g (y .disk) (perform g c y .disk) s
   quiet-reads c r y h q =
       let m = reads-holds (stateOf (y .table) i) s (h .sector) (h .offset) (h .left) (h .reads) in
       let (p, n) = quiet-keeps g roomy y (h .sound) i z s m c q in
@@ -82,34 +83,23 @@ module _ (g : Geometry) (roomy : 0 < g .room) (i s : ℕ) (z : i < 8) where
   stands : (r : List ℕ) (y : System) → Reads g s r y i → Stands (y .disk) s
   stands r y h = h .sound .reading i s (h .sector) (h .offset) (h .left) z (h .reads) .0
 
-  get-call : (c : Block) (text b : List ℕ) → On i 7 (cioOf c text b) → (r : List ℕ) (y : System) → Reads g s r y i
-      → let o = cio g (y .disk) (y .table) c text b in HandsOut r b o × Reads g s (drop (length b) r) (after (o .effect)) i × Both g (y .disk) (o .effect .disk) s
-  unfolding getAt
-  get-call c text b (e, f) r y h = rw (row-get g (y .disk) (y .table) c text b (rw e z) f, e) (let (p, q) = get-at g s i z r b y h in (p, q, both-none g (y .disk) s (stands r y h)))
-
-  got-by : (c : Block) (text b : List ℕ) → On i 7 (cioOf c text b) → (y : System) → let o = cio g (y .disk) (y .table) c text b in gotBy i (cioOf c text b) (outcomeOf g (cioOf c text b) y) ≡ take (o .effect .count) (o .buffer)
-  unfolding gotBy outcomeOf
-  got-by c text b (e, f) y = rw (eq-eqb (c .channel) i e, eq-eqb (c .command) 7 f)
-
-  call-reads : (c : Call) → (On i 12 c → ⊥) → (r : List ℕ) (y : System) → Reads g s r y i → Leaves c r y
-  unfolding gotBy outcomeOf
-  call-reads (cioOf c text b) n r y h = go (eqb (c .channel) i) refl (eqb (c .command) 7) refl
+  call-reads : (c : Call) → (On i Close c → ⊥) → (r : List ℕ) (y : System) → Reads g s r y i → Leaves c r y
+  unfolding gotBy
+  call-reads (cioOf c text b) n r y h = go (got-moving i c text b (take (o .effect .count) (o .buffer))) refl
     where
       call : Call
       call = cioOf c text b
 
-      other : gotBy i call (outcomeOf g call y) ≡ [] → (c .command ≡ 7 → c .channel ≡ i → ⊥) → Leaves call r y
-      other m f =
-          let (p, q) = quiet-reads call r y h (record { closes = λ e k. n (k, e); gets = λ e k x p o l _. f e k; puts = λ e k x p. not-writing y r h x p }) in
-          record { left = r; begins = rw m; reads = p; both = q }
+      o : Outcome
+      o = outcomeOf g call y
 
-      go : (a : Bool) → eqb (c .channel) i ≡ a → (e : Bool) → eqb (c .command) 7 ≡ e → Leaves call r y
-      go true p true q =
-          let k : On i 7 call = (eqb-true (c .channel) i p, eqb-true (c .command) 7 q) in
-          let (o, m, v) = get-call c text b k r y h in
-          record { left = drop (length b) r; begins = sym (ap (λ l. l ++ drop (length b) r) (got-by c text b k y ∙ got-is r b _ o) ∙ take-append-drop (length b) r); reads = m; both = v }
-      go true p false q = other (rw (p, q)) (λ e _. eqb-false (c .command) 7 q e)
-      go false p e q = other (rw p) (λ _ k. eqb-false (c .channel) i p k)
+      go : {l : List ℕ} → Moving (On i (Moves Get) call) (take (o .effect .count) (o .buffer)) l → gotBy i call o ≡ l → Leaves call r y
+      go (moves k) e =
+          let (q, m, d) = get-call g s i z c text b k r y h in
+          record { left = drop (length b) r; begins = sym (ap (λ l. l ++ drop (length b) r) (e ∙ got-is r b o q) ∙ take-append-drop (length b) r); reads = m; both = rw d (both-none g (y .disk) s (stands r y h)) }
+      go (rests f) e =
+          let (p, q) = quiet-reads call r y h (record { closes = λ m k. n (k, m); gets = λ m k x p o l _. f (k, m); puts = λ _ _ x p. not-writing y r h x p }) in
+          record { left = r; begins = rw e; reads = p; both = q }
   call-reads (recoveryOf x) n r y h = let (p, q) = quiet-reads (recoveryOf x) r y h tt in record { left = r; begins = refl; reads = p; both = q }
 
   -- and after any list that does not close the channel
@@ -133,7 +123,7 @@ module _ (g : Geometry) (roomy : 0 < g .room) (i s : ℕ) (z : i < 8) where
       }
 
 pub get-calls : (g : Geometry) → 0 < g .room → (y : System) → Sound g (y .disk) (y .table) → (i s : ℕ) → i < 8 → AtStart y i s → (cs : List Call) → StaysOpen i cs → DeliveredOver g (disks g) (file g (y .disk) s) y i s cs
-unfolding outcomeOf
+unfolding gotBy
 get-calls g roomy y a i s z e cs n =
     let x = run (disks g) cs y in
     let h = calls-read g roomy i s z cs n (file g (y .disk) s) y (record { sound = a; sector = 0; offset = 0; left = count (y .disk) s; reads = e; bytes = rest-before g (y .disk) s 0 0 refl }) in
@@ -144,8 +134,9 @@ get-calls g roomy y a i s z e cs n =
       named = bytes-same (x .disk) s _ (h .both .1);
       left = h .left;
       begins = h .begins;
-      next = λ c text b k. get-call g roomy i s z c text b k (h .left) x p .0;
+      next = λ c text b k. get-call g s i z c text b k (h .left) x p .0;
       ended = λ c text b k m.
-          let o = get-call g roomy i s z c text b k (h .left) x p .0 in
-          ap (λ l. gotBytes i (events (disks g) cs y) ++ l) (got-by g roomy i s z c text b k x ∙ got-is (h .left) b _ o ∙ got-all (h .left) b _ o m) ∙ sym (h .begins);
+          let o = outcomeOf g (cioOf c text b) x in
+          let q = get-call g s i z c text b k (h .left) x p .0 in
+          ap (λ l. gotBytes i (events (disks g) cs y) ++ l) (moving-all (got-moving i c text b (take (o .effect .count) (o .buffer))) k ∙ got-is (h .left) b o q ∙ got-all (h .left) b o q m) ∙ sym (h .begins);
     }

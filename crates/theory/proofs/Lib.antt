@@ -1,7 +1,7 @@
 pub mod Names
 pub mod Standing
 pub mod Find
-pub mod Row
+pub mod SlotBytes
 pub mod Placed
 pub mod Sectors
 pub mod Give
@@ -13,6 +13,7 @@ pub mod Gets
 pub mod Change
 pub mod SoundChange
 pub mod Stays
+pub mod PutWalk
 pub mod PutStep
 pub mod CommandStep
 pub mod Calls
@@ -34,16 +35,15 @@ pub mod SoundCommands
 pub mod SoundOpen
 pub mod SoundGet
 pub mod SoundCalls
-pub mod Rows
 pub mod Written
 pub mod Shut
 pub mod Reader
 pub mod Served
 pub mod Adding
 pub mod Answers
-pub mod Cases
 pub mod Keeps
 pub mod Channel
+pub mod Moving
 pub mod PutCalls
 pub mod GetCalls
 pub mod Demand2

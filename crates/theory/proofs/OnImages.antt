@@ -7,15 +7,14 @@ use lib.ListN.{length}
 use Rattle.layout.specs.declared.density.Medium.{Medium}
 use Rattle.layout.specs.Image.{Geometry, geometryOf, view, imageOf}
 use Rattle.layout.specs.Header.{servedAs}
-use Rattle.layout.proofs.Header.{served-whole}
 use Rattle.rules.specs.Commands.{Effect}
 use Rattle.rules.specs.Cio.{Outcome, ImageOutcome, leaves}
 use Rattle.rules.specs.Lists.{Call, cioOf, recoveryOf, System, run, after, outcomeOf, perform, disks, ImageTable, recoveringOn, outcomeOn, afterOn, systemOf, leftOn, images, IsServed, ImageSound}
 use Rattle.rules.specs.Demand2.{ImageDemand2}
 use Rattle.rules.specs.Demand3.{ImageDemand3}
 use Rattle.rules.specs.Sound.{Sound}
-use Rattle.theory.proofs.Served.{laws, cio-on, recover-on, held-view, held-served}
-use Rattle.theory.proofs.Placed.{Placed, view-placed}
+use Rattle.theory.proofs.Served.{laws, viewed, cio-on, recover-on, held-view, held-served}
+use Rattle.theory.proofs.Placed.{Placed}
 use Rattle.theory.proofs.PlacedCalls.{call-placed}
 use Rattle.theory.proofs.SoundCalls.{calls-sound}
 use Rattle.theory.proofs.Formatted.{formatted-sound}
@@ -45,7 +44,7 @@ module _ (m : Medium) where
     l = x .image
 
     placed : Placed g (view g l 0) (e .disk)
-    placed = call-placed g (laws l m w) (view g l 0) c (systemOf g x) (view-placed g (laws l m w) l (served-whole l m w .1))
+    placed = call-placed g (laws l m w) (view g l 0) c (systemOf g x) (viewed l m w)
 
     image-after : outcomeOn c x .image ≡ imageOf g (length l) (e .disk)
     image-after = ap (λ (o : ImageOutcome). o .image) (outcome-on c x w)
@@ -65,7 +64,7 @@ module _ (m : Medium) where
     served-after = ap servedAs image-after ∙ held-served l m w (e .disk) placed
 
   -- and so on along a list
-  pub served-run : (cs : List Call) (x : ImageTable) → IsServed m x → IsServed m (run (images g) cs x)
+  served-run : (cs : List Call) (x : ImageTable) → IsServed m x → IsServed m (run (images g) cs x)
   unfolding run
   served-run [] x w = w
   served-run (c ∷ cs) x w = served-run cs (afterOn (outcomeOn c x)) (served-after c x w)
@@ -76,7 +75,7 @@ module _ (m : Medium) where
   run-on (c ∷ cs) x w = run-on cs (afterOn (outcomeOn c x)) (served-after c x w) ∙ ap (run (disks g) cs) (system-after c x w)
 
   -- so calls on the image run alike to calls on its disk
-  pub images-alike : (x : ImageTable) → IsServed m x → Alike (images g) (disks g) x (systemOf g x)
+  images-alike : (x : ImageTable) → IsServed m x → Alike (images g) (disks g) x (systemOf g x)
   images-alike x w = record { systems = λ cs. run-on cs x w; outcomes = λ cs c. left-after c (run (images g) cs x) (served-run cs x w) ∙ ap (outcomeOf g c) (run-on cs x w) }
 
   -- soundness on images

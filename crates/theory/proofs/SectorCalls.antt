@@ -11,7 +11,7 @@ use borrow.Author.Tests.{eqb-true, eq-eqb, leb-true, le-leb, not-false}
 use Rattle.layout.specs.Basics.{valuesFrom}
 use Rattle.layout.specs.declared.density.Medium.{Medium}
 use Rattle.layout.specs.declared.Served.the-variants.{As}
-use Rattle.layout.specs.Image.{Sector, Disk, Geometry, geometryOf, view, imageOf, put, putRun}
+use Rattle.layout.specs.Image.{Sector, Disk, Geometry, geometryOf, view, imageOf, writeByte, writeRun}
 use Rattle.layout.specs.Header.{servedAs}
 use Rattle.layout.proofs.Header.{served-whole}
 use Rattle.layout.specs.Status.{success}
@@ -21,8 +21,8 @@ use Rattle.layout.proofs.Image.{Lawful, image-length}
 use Rattle.layout.proofs.Run.{run-other, run-values, part-values}
 use Rattle.rules.specs.Sectors.{SectorOutcome, sectorOutcome, ImageSectorOutcome, isWrite, isRequest, sector, sectorCall}
 use Rattle.theory.specs.SectorCalls.{Wrote, SectorCalls}
-use Rattle.theory.proofs.Placed.{Placed, view-placed, placed-put}
-use Rattle.theory.proofs.Served.{laws, sector-on, kept-image, held-view, held-served}
+use Rattle.theory.proofs.Placed.{Placed, placed-write}
+use Rattle.theory.proofs.Served.{laws, viewed, sector-on, kept-image, held-view, held-served}
 
 -- the first bytes of a sector, as they lie in an image of the geometry's length
 pub sector-part : (g : Geometry) (lawful : Lawful g) (l : List ℕ) → length l ≡ g .total → (k n : ℕ) → 1 ≤ k → k ≤ 720 → n ≤ g .size k → take n (drop (g .start k) l) ≡ valuesFrom (view g l k) n 0
@@ -33,10 +33,10 @@ sector-part g lawful l e k (suc n) a b c =
     ap (λ i. take (suc n) (drop i l)) (sym (add-zero (g .start k))) ∙ part-values g (suc n) l k 0 (λ i h. omega arith) (omega arith)
 
 -- a run of bytes within one sector leaves a disk that an image can hold
-placed-run : (g : Geometry) (lawful : Lawful g) (top : Sector) (xs : List ℕ) (d : Disk) (k j : ℕ) → 1 ≤ k → k ≤ 720 → j + length xs ≤ g .size k → Placed g top d → Placed g top (putRun d k j xs)
-unfolding putRun
+placed-run : (g : Geometry) (lawful : Lawful g) (top : Sector) (xs : List ℕ) (d : Disk) (k j : ℕ) → 1 ≤ k → k ≤ 720 → j + length xs ≤ g .size k → Placed g top d → Placed g top (writeRun d k j xs)
+unfolding writeRun
 placed-run g lawful top [] d k j a b c p = p
-placed-run g lawful top (v ∷ xs) d k j a b c p = placed-run g lawful top xs (put d k j v) k (j + 1) a b (omega arith) (placed-put g lawful top d k j v a b (omega arith) p)
+placed-run g lawful top (v ∷ xs) d k j a b c p = placed-run g lawful top xs (writeByte d k j v) k (j + 1) a b (omega arith) (placed-write g lawful top d k j v a b (omega arith) p)
 
 -- a sector of the disk
 request-sector : (command k : ℕ) → isRequest command k ≡ true → (1 ≤ k) × (k ≤ 720)
@@ -63,7 +63,7 @@ module _ (g : Geometry) (d : Disk) where
       low : 1 ≤ k
       high : k ≤ 720
       size : length b ≡ g .size k
-      write : isWrite command ≡ true → o ≡ sectorOutcome success (g .size k) (putRun d k 0 b) b
+      write : isWrite command ≡ true → o ≡ sectorOutcome success (g .size k) (writeRun d k 0 b) b
       read : isWrite command ≡ false → o ≡ sectorOutcome success (g .size k) d (valuesFrom (d k) (g .size k) 0)
 
     passed : let o = sector g d device unit command k b in o .reply .status ≡ success → Passed o
@@ -93,13 +93,13 @@ module _ (m : Medium) (l : List ℕ) (w : servedAs l ≡ As m) (k : ℕ) (b : Li
   D = view g l
 
   abbrev e : Disk
-  e = putRun D k 0 b
+  e = writeRun D k 0 b
 
   abbrev l' : List ℕ
   l' = imageOf g (length l) e
 
   placed : Placed g (D 0) e
-  placed = placed-run g (laws l m w) (D 0) b D k 0 low high (omega arith) (view-placed g (laws l m w) l (served-whole l m w .1))
+  placed = placed-run g (laws l m w) (D 0) b D k 0 low high (omega arith) (viewed l m w)
 
   own : valuesFrom (view g l' k) (g .size k) 0 ≡ b
   own = ap (λ (d : Disk). valuesFrom (d k) (g .size k) 0) (held-view l m w e placed) ∙ ap (λ n. valuesFrom (e k) n 0) (sym size) ∙ run-values b D k 0

@@ -29,7 +29,7 @@ use Rattle.rules.specs.Sectors.{ImageSectorOutcome, sector, sectorCall}
 use Rattle.rules.specs.Showing.{shows}
 use Rattle.rules.specs.Thin.{ImagePutOutcome, thinGet, thinPut}
 use Rattle.rules.specs.Demand1.{Unserved, Reasons}
-use Rattle.theory.proofs.Placed.{Placed, placed-view}
+use Rattle.theory.proofs.Placed.{Placed, view-placed, placed-view}
 
 module _ (l : List ℕ) (m : Medium) (w : servedAs l ≡ As m) where
   abbrev g : Geometry
@@ -61,6 +61,10 @@ module _ (l : List ℕ) (m : Medium) (w : servedAs l ≡ As m) where
   -- the image of the disk that it held before is the same list
   pub kept-image : (d : Disk) → d ≡ view g l → imageOf g (length l) d ≡ l
   kept-image d e = rw e (image-view g laws l)
+
+  -- the disk that it holds is one that an image can hold
+  pub viewed : Placed g (view g l 0) (view g l)
+  viewed = view-placed g laws l (served-whole l m w .1)
 
   -- a disk with the same header that an image can hold: its image is as long, holds it, and is served alike
   module _ (d : Disk) (p : Placed g (view g l 0) d) where

@@ -3,7 +3,7 @@ use mathlib.Core.Bool.{true, false, not, _&&_, _||_}
 use mathlib.Core.List.{List, _∷_, _++_, append-nil}
 use mathlib.Core.Logic.{_≢_}
 use mathlib.Core.Path.{_≡_, refl, sym, ap, _∙_}
-use Prim.Native.Nat.{ℕ, suc, zero, _+_, _-_, _≤_, _<_}
+use Prim.Native.Nat.{ℕ, suc, zero, _+_, _≤_, _<_}
 use native.Mathlib.Nat.{zero-add, add-zero}
 use native.Mathlib.Omega.{arith}
 use lib.Dec.{ltb, leb, eqb}
@@ -17,7 +17,7 @@ use Rattle.layout.specs.declared.Served.the-variants.{As}
 use Rattle.layout.specs.Image.{Disk, Geometry, geometryOf, view}
 use Rattle.layout.specs.Header.{servedAs}
 use Rattle.layout.proofs.Header.{served-whole}
-use Rattle.layout.specs.File.{used, fits}
+use Rattle.layout.specs.File.{inUse, fits}
 use Rattle.layout.specs.Status.{success, badChain}
 use Rattle.layout.proofs.Check.{check-no}
 use Rattle.layout.proofs.Logic.{and-left, or-right}
@@ -40,12 +40,12 @@ module _ (g : Geometry) (d : Disk) (s : ℕ) where
   seek-here k o zero h = rw h
   seek-here k o (suc l) h = rw (h, seek)
 
-  has-byte : (k o : ℕ) → k ≢ 0 → o < used g (d k) → hasByte g d k o ≡ true
+  has-byte : (k o : ℕ) → k ≢ 0 → o < inUse g (d k) → hasByte g d k o ≡ true
   unfolding hasByte
-  has-byte k o n h = rw (ne-eqb k 0 n, lt-ltb o (used g (d k)) h)
+  has-byte k o n h = rw (ne-eqb k 0 n, lt-ltb o (inUse g (d k)) h)
 
   -- bytes of one sector, one after the other
-  get-within : (n k o l i : ℕ) (b : List ℕ) → k ≢ 0 → o + n ≤ used g (d k) → i + n ≤ length b → getFrom g d s n i (place k o l) b ≡ reads success (i + n) (place k (o + n) l) (take i b ++ (valuesFrom (d k) n o ++ drop (i + n) b))
+  get-within : (n k o l i : ℕ) (b : List ℕ) → k ≢ 0 → o + n ≤ inUse g (d k) → i + n ≤ length b → getFrom g d s n i (place k o l) b ≡ reads success (i + n) (place k (o + n) l) (take i b ++ (valuesFrom (d k) n o ++ drop (i + n) b))
   unfolding getFrom valuesFrom
   get-within zero k o l i b z h e = rw (add-zero i, add-zero o, take-append-drop i b)
   get-within (suc n) k o l i b z h e =
@@ -78,8 +78,8 @@ module _ (g : Geometry) (d : Disk) (s : ℕ) where
     first-tested : fits g (d k) s k ≡ true → readable g d s k 0 ≡ true
     unfolding readable
     first-tested f =
-        let low = and-left (ltb s 64) (eqb j 0 || fits g (d j) s j && leb o (used g (d j))) (e .tested) in
-        rw (low, f, le-leb 0 (used g (d k)) (omega arith)) (or-right (eqb k 0) true refl)
+        let low = and-left (ltb s 64) (eqb j 0 || fits g (d j) s j && leb o (inUse g (d j))) (e .tested) in
+        rw (low, f, le-leb 0 (inUse g (d k)) (omega arith)) (or-right (eqb k 0) true refl)
 
     edge-get : (i : ℕ) (b : List ℕ) → fits g (d k) s k ≡ true → 0 < i → getFrom g d s i 0 (place j o (suc n)) b ≡ getFrom g d s i 0 (place k 0 n) b
     unfolding getFrom
@@ -103,7 +103,7 @@ module _ (g : Geometry) (d : Disk) (s : ℕ) where
     enter-edge : (b : List ℕ) → 0 < length b → fits g (d k) s k ≡ true → getOn g d (Reading s j o (suc n)) b ≡ getOn g d (Reading s k 0 n) b
     enter-edge b z f = on-edge b z ∙ ap (gets s) (edge-get (length b) b f z) ∙ sym (first-get b z f)
 
-    get-edge : (b : List ℕ) → 0 < length b → length b ≤ used g (d k) → fits g (d k) s k ≡ true → Gives (valuesFrom (d k) (length b) 0) s k n b (getOn g d (Reading s j o (suc n)) b)
+    get-edge : (b : List ℕ) → 0 < length b → length b ≤ inUse g (d k) → fits g (d k) s k ≡ true → Gives (valuesFrom (d k) (length b) 0) s k n b (getOn g d (Reading s j o (suc n)) b)
     unfolding gets
     get-edge b z h f =
         let r = edge-get (length b) b f z ∙ get-within (length b) k 0 n 0 b (fits-pos g (d k) s k f) (omega arith) (omega arith) in
@@ -135,26 +135,26 @@ module _ (l : List ℕ) (m : Medium) (w : servedAs l ≡ As m) where
     yes-is : shows l s k ≡ true → told.Shown g l s k
     yes-is h = enters-true g l s k (sym (shows-is l s k m w) ∙ h)
 
-    long : shows l s k ≡ true → shownLength l s k ≡ used g (D k)
+    long : shows l s k ≡ true → shownLength l s k ≡ inUse g (D k)
     long h = length-yes l s k m w (sym (shows-is l s k m w) ∙ h)
 
-    part-is : shows l s k ≡ true → shownPart l s k ≡ valuesFrom (D k) (used g (D k)) 0
+    part-is : shows l s k ≡ true → shownPart l s k ≡ valuesFrom (D k) (inUse g (D k)) 0
     unfolding shownPart
     part-is h =
         let y = yes-is h in
         let u = y .small in
         let a = y .low in
         let z = laws l m w .whole k a in
-        rw (long h, start-yes l s k m w (sym (shows-is l s k m w) ∙ h)) (sector-part g (laws l m w) l (served-whole l m w .1) k (used g (D k)) (omega arith) (omega arith) (omega arith))
+        rw (long h, start-yes l s k m w (sym (shows-is l s k m w) ∙ h)) (sector-part g (laws l m w) l (served-whole l m w .1) k (inUse g (D k)) (omega arith) (omega arith) (omega arith))
 
     no-fits : (j o : ℕ) → AtEdge g D s j o k → shows l s k ≡ false → fits g (D k) s k ≡ false
     unfolding enters readable
     no-fits j o e h =
-        let low : ltb s 64 ≡ true = and-left (ltb s 64) (eqb j 0 || fits g (D j) s j && leb o (used g (D j))) (e .tested) in
+        let low : ltb s 64 ≡ true = and-left (ltb s 64) (eqb j 0 || fits g (D j) s j && leb o (inUse g (D j))) (e .tested) in
         sym (ap (λ b. b && fits g (D k) s k) low) ∙ sym (shows-is l s k m w) ∙ h
 
-    whole : shows l s k ≡ true → (b : List ℕ) → length b ≤ used g (D k) → take (length b) (valuesFrom (D k) (length b) 0) ≡ take (length b) (shownPart l s k)
-    whole h b t = take-values (D k) (length b) (length b) 0 (omega arith) ∙ sym (take-values (D k) (length b) (used g (D k)) 0 t) ∙ ap (take (length b)) (sym (part-is h))
+    whole : shows l s k ≡ true → (b : List ℕ) → length b ≤ inUse g (D k) → take (length b) (valuesFrom (D k) (length b) 0) ≡ take (length b) (shownPart l s k)
+    whole h b t = take-values (D k) (length b) (length b) 0 (omega arith) ∙ sym (take-values (D k) (length b) (inUse g (D k)) 0 t) ∙ ap (take (length b)) (sym (part-is h))
 
   shown-on : ShownOn g l
   shown-on = record {

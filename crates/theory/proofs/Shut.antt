@@ -1,35 +1,31 @@
 -- A file that its channel closed: it stands with its name and its bytes, and is found.
 use mathlib.Core.Bool.{true, false}
-use mathlib.Core.List.{List, []}
+use mathlib.Core.List.{List}
 use mathlib.Core.Logic.{_≢_}
 use mathlib.Core.Path.{_≡_, refl, ap, _∙_}
 use Prim.Native.Nat.{ℕ, _<_}
 use borrow.Author.Tests.{eq-eqb, lt-ltb}
 use Rattle.layout.specs.declared.State.the-variants.{Closed}
+use Rattle.rules.specs.declared.Command.the-variants.{Close}
 use Rattle.layout.specs.declared.Found.{Found}
 use Rattle.layout.specs.declared.Found.the-variants.{At, Nothing}
 use Rattle.layout.specs.declared.Table.{Table}
-use Rattle.rules.specs.declared.Block.{Block}
 use Rattle.layout.specs.Image.{Disk, Geometry}
 use Rattle.layout.specs.Volume.{bit, isSet}
-use Rattle.layout.specs.Directory.{flag, sameName, standing, putFlag, find}
+use Rattle.layout.specs.Directory.{flag, sameName, standingFlag, writeFlag, find, is43}
 use Rattle.layout.specs.File.{chain, file}
 use Rattle.layout.specs.Channels.{stateOf, withState}
 use Rattle.layout.specs.Status.{success}
-use Rattle.layout.proofs.Check.{check-no}
-use Rattle.rules.specs.Put.{isOutput}
-use Rattle.rules.specs.Commands.{Effect, effect, closeState, closeCall}
 use Rattle.rules.specs.Lists.{Call, cioOf, recoveryOf, System, after, perform, outcomeOf}
 use Rattle.rules.specs.Sound.{Stands, Sound}
 use Rattle.rules.specs.Demand2.{On}
+use Rattle.rules.proofs.Does.{does-close}
 use Rattle.theory.proofs.Standing.{stands-where, same-names, same-bytes, bytes-same}
 use Rattle.theory.proofs.Find.{find-at, find-none}
-use Rattle.theory.proofs.Row.{flag-is}
+use Rattle.theory.proofs.SlotBytes.{flag-is}
 use Rattle.theory.proofs.Delete.{mark-file, mark-name}
 use Rattle.theory.proofs.SoundChan.{sound-close}
-use Rattle.theory.proofs.Writer.{writer}
-use Rattle.theory.proofs.Written.{Written}
-use Rattle.theory.proofs.Rows.{row-close}
+use Rattle.theory.proofs.Writer.{Written, writer}
 
 -- the file in slot s is closed, and has the name w and the bytes r
 pub record Shut (g : Geometry) (s : ℕ) (w : ℕ → ℕ) (r : List ℕ) (y : System) : Type 0 where
@@ -44,16 +40,15 @@ module _ (g : Geometry) (i s : ℕ) (z : i < 8) (w : ℕ → ℕ) (r : List ℕ)
   d = y .disk
 
   abbrev shutDisk : Disk
-  shutDisk = putFlag d s 0x42
+  shutDisk = writeFlag d s 0x42
 
-  close-is : (c : Block) (text : List ℕ) → c .channel ≡ i → closeCall g d (y .table) c text ≡ effect success shutDisk (withState (y .table) (c .channel) Closed) [] Nothing
-  unfolding closeCall closeState isOutput
-  close-is c text e =
-      let k = writer g d (y .table) (h .sound) i s (h .last) z (h .writes) in
-      ap (closeState g d (y .table) c text) (ap (stateOf (y .table)) e ∙ h .writes) ∙ check-no {A = Effect} _ _ _ (rw (lt-ltb s 64 (k .slot), eq-eqb (flag d s) 0x43 (k .opened)))
+  -- so it is open for output
+  opened : is43 d s ≡ true
+  unfolding is43
+  opened = let k = writer g d (y .table) (h .sound) i s (h .last) z (h .writes) in rw (lt-ltb s 64 (k .slot), eq-eqb (flag d s) 0x43 (k .opened))
 
   shut : Shut g s w r (record { disk = shutDisk; table = withState (y .table) i Closed })
-  unfolding standing isSet bit
+  unfolding standingFlag isSet bit
   shut =
       let k = writer g d (y .table) (h .sound) i s (h .last) z (h .writes) in
       let a = sound-close g d (y .table) (h .sound) i z s (h .last) (h .writes) in
@@ -66,9 +61,10 @@ module _ (g : Geometry) (i s : ℕ) (z : i < 8) (w : ℕ → ℕ) (r : List ℕ)
         bytes = mark-file d d beside s 0x42 (k .slot) g s false (chain g d s) (k .marks) ∙ h .bytes;
       }
 
-  pub close-call : (c : Call) → On i 12 c → (perform g c y .status ≡ success) × Shut g s w r (after (perform g c y))
+  pub close-call : (c : Call) → On i Close c → (perform g c y .status ≡ success) × Shut g s w r (after (perform g c y))
   unfolding outcomeOf
-  close-call (cioOf c text b) (e, f) = rw (row-close g d (y .table) c text b (rw e z) f, close-is c text e) (refl, rw e shut)
+  close-call (cioOf c text b) (e, f) =
+      rw (does-close g d (y .table) c text b s (h .last) (record { on = record { small = rw e z; command = f }; state = ap (stateOf (y .table)) e ∙ h .writes }) opened) (refl, rw e shut)
   close-call (recoveryOf x) e = absurd e
 
 -- on a sound disk a standing slot with the name is the one found

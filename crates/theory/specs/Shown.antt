@@ -12,7 +12,7 @@ use Rattle.layout.specs.declared.density.Medium.{Medium}
 use Rattle.layout.specs.declared.Served.the-variants.{As}
 use Rattle.layout.specs.Image.{Disk, Geometry, geometryOf, view}
 use Rattle.layout.specs.Header.{servedAs}
-use Rattle.layout.specs.File.{used}
+use Rattle.layout.specs.File.{inUse}
 use Rattle.layout.specs.Status.{success, badChain}
 use Rattle.rules.specs.Get.{GetOutcome, nextToEnter, hasByte, ends, readable}
 use Rattle.rules.specs.Showing.{shows, shownStart, shownLength, shownPart}
@@ -42,7 +42,7 @@ pub record Stops (st : State) (b : List ℕ) (z : GetOutcome) : Type 0 where
 -- on an image that is served with this geometry
 pub record ShownOn (g : Geometry) (l : List ℕ) : Type 0 where
   -- where the answer is yes the part is the sector's bytes in use
-  pub part : (s k : ℕ) → shows l s k ≡ true → let r = view g l k in shownPart l s k ≡ valuesFrom r (used g r) 0
+  pub part : (s k : ℕ) → shows l s k ≡ true → let r = view g l k in shownPart l s k ≡ valuesFrom r (inUse g r) 0
   -- a get from the edge of the sector with sectors left delivers it
   pub delivers : (s j o k n : ℕ) → AtEdge g (view g l) s j o k → shows l s k ≡ true
       → (c : Channel) → c .state ≡ Reading s j o (suc n) → (b : List ℕ) → 0 < length b → length b ≤ shownLength l s k → Gives (shownPart l s k) s k n b (thinGet l c b)

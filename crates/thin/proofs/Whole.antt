@@ -2,23 +2,25 @@
 use mathlib.Core.List.{List, []}
 use mathlib.Core.Path.{_≡_, refl, sym, ap, _∙_}
 use Prim.Native.Nat.{ℕ, _<_}
-use borrow.Author.Tests.{eq-eqb, lt-leb}
 use Rattle.layout.specs.declared.Table.{Table}
 use Rattle.layout.specs.declared.Found.the-variants.{Nothing}
 use Rattle.layout.specs.declared.Served.{Served}
 use Rattle.layout.specs.declared.Served.the-variants.{As, Not}
-use Rattle.layout.specs.Image.{geometryOf}
+use Rattle.layout.specs.Image.{geometryOf, view}
 use Rattle.layout.specs.Header.{servedAs}
 use Rattle.layout.specs.Channels.{channel, stateOf, withState}
 use Rattle.layout.proofs.Channels.{with-id}
-use Rattle.layout.proofs.Check.{check-yes, check-no, served-as, served-not}
+use Rattle.layout.proofs.Check.{served-as, served-not}
 use Rattle.layout.proofs.Header.{served-whole}
 use Rattle.layout.proofs.Image.{lawful, image-view}
 use Rattle.rules.specs.declared.Block.{Block}
+use Rattle.rules.specs.declared.Transfer.the-variants.{Get, Put}
+use Rattle.rules.specs.declared.Command.the-variants.{Moves}
 use Rattle.rules.specs.Get.{GetOutcome}
 use Rattle.rules.specs.Commands.{putAt}
-use Rattle.rules.specs.Cio.{Outcome, outcome, getAt, command, cio, ImageOutcome, leaves, cioCall}
+use Rattle.rules.specs.Cio.{getAt, Asks, transfer, command, ImageOutcome, leaves, cioCall}
 use Rattle.rules.specs.Thin.{ImagePutOutcome, thinGet, thinPut}
+use Rattle.rules.proofs.Does.{does}
 
 -- what a call answers, with the image and the buffer after it
 abbrev tells : ℕ → ℕ → Table → List ℕ → List ℕ → List ℕ → ImageOutcome
@@ -35,8 +37,8 @@ module _ (l : List ℕ) (t : Table) where
 
   -- with a channel of the table
   module _ (c : Block) (text b : List ℕ) (low : c .channel < 8) where
-    pub get-whole : c .command ≡ 7 → cioCall l t c text b ≡ getWhole (c .channel) (thinGet l (channel (stateOf t (c .channel))) b)
-    unfolding cioCall cio getAt thinGet
+    pub get-whole : Asks c (Moves Get) → cioCall l t c text b ≡ getWhole (c .channel) (thinGet l (channel (stateOf t (c .channel))) b)
+    unfolding cioCall command transfer getAt thinGet
     get-whole e = go (servedAs l) refl
       where
         go : (v : Served) → servedAs l ≡ v → cioCall l t c text b ≡ getWhole (c .channel) (thinGet l (channel (stateOf t (c .channel))) b)
@@ -44,12 +46,12 @@ module _ (l : List ℕ) (t : Table) where
             served-not {A = ImageOutcome} _ _ _ q ∙ ap (λ u. tells status 0 u l b []) (sym (with-id t (c .channel) _ refl))
             ∙ ap (getWhole (c .channel)) (sym (served-not {A = GetOutcome} _ _ _ q))
         go (As m) q =
-            served-as {A = ImageOutcome} _ _ _ q
-            ∙ ap (leaves (geometryOf m) l) (check-no {A = Outcome} _ _ _ (lt-leb 8 (c .channel) low) ∙ check-yes {A = Outcome} _ _ _ (eq-eqb (c .command) 7 e))
-            ∙ rw (image-view (geometryOf m) (lawful m (served-whole l m q .0)) l) (ap (getWhole (c .channel)) (sym (served-as {A = GetOutcome} _ _ _ q)))
+            let g = geometryOf m in
+            served-as {A = ImageOutcome} _ _ _ q ∙ ap (leaves g l) (does g (view g l) t c text b (record { small = low; command = e }))
+            ∙ rw (image-view g (lawful m (served-whole l m q .0)) l) (ap (getWhole (c .channel)) (sym (served-as {A = GetOutcome} _ _ _ q)))
 
-    pub put-whole : c .command ≡ 11 → cioCall l t c text b ≡ putWhole (c .channel) b (thinPut l (channel (stateOf t (c .channel))) b)
-    unfolding cioCall cio command putAt thinPut
+    pub put-whole : Asks c (Moves Put) → cioCall l t c text b ≡ putWhole (c .channel) b (thinPut l (channel (stateOf t (c .channel))) b)
+    unfolding cioCall command transfer putAt thinPut
     put-whole e = go (servedAs l) refl
       where
         go : (v : Served) → servedAs l ≡ v → cioCall l t c text b ≡ putWhole (c .channel) b (thinPut l (channel (stateOf t (c .channel))) b)
@@ -57,7 +59,6 @@ module _ (l : List ℕ) (t : Table) where
             served-not {A = ImageOutcome} _ _ _ q ∙ ap (λ u. tells status 0 u l b []) (sym (with-id t (c .channel) _ refl))
             ∙ ap (putWhole (c .channel) b) (sym (served-not {A = ImagePutOutcome} _ _ _ q))
         go (As m) q =
-            served-as {A = ImageOutcome} _ _ _ q
-            ∙ ap (leaves (geometryOf m) l) (check-no {A = Outcome} _ _ _ (lt-leb 8 (c .channel) low) ∙ check-no {A = Outcome} _ _ _ (rw e)
-            ∙ ap (λ f. outcome f b) (check-no _ _ _ (rw e) ∙ check-yes _ _ _ (eq-eqb (c .command) 11 e)))
+            let g = geometryOf m in
+            served-as {A = ImageOutcome} _ _ _ q ∙ ap (leaves g l) (does g (view g l) t c text b (record { small = low; command = e }))
             ∙ ap (putWhole (c .channel) b) (sym (served-as {A = ImagePutOutcome} _ _ _ q))

@@ -2,8 +2,8 @@
 use Prim.Native.Nat.{ℕ, _+_, _*_}
 
 -- status + 256 * count
-abbrev pub packed : ℕ → ℕ → ℕ
-packed status count = status + 256 * count
+abbrev pub resultOf : ℕ → ℕ → ℕ
+resultOf status count = status + 256 * count
 
 -- a table or a record that is malformed answers 255 with count 0
 abbrev pub malformed : ℕ

@@ -28,8 +28,8 @@ unfoldable pub inForce : ℕ → Bool
 inForce kind = leb kind writing
 
 -- a record is five words, its kind in force
-unfoldable pub isRecord : List ℕ → Bool
-isRecord ws = eqb (length ws) 5 && inForce (getD ws 0 0)
+unfoldable pub isChannel : List ℕ → Bool
+isChannel ws = eqb (length ws) 5 && inForce (getD ws 0 0)
 
 -- the state that a record's words say; words that its kind does not use are not looked at. The sector of a writing channel is its last
 unfoldable pub stateIn : List ℕ → State
@@ -53,12 +53,12 @@ unfoldable pub sameState : State → State → Bool
 sameState a b = allBelow 5 (sameWord (wordsOf a) (wordsOf b))
 
 -- a record after a call that leaves this state: where the state is the same all five words stay as they were, otherwise they are those of the new state
-unfoldable pub recordAfter : List ℕ → State → List ℕ
-recordAfter ws st = if (sameState (stateIn ws) st) ws (wordsOf st)
+unfoldable pub channelAfter : List ℕ → State → List ℕ
+channelAfter ws st = if (sameState (stateIn ws) st) ws (wordsOf st)
 
 -- the record of channel c in a table's words
-unfoldable pub recordAt : List ℕ → ℕ → List ℕ
-recordAt ws c = take 5 (drop (5 * c) ws)
+unfoldable pub channelAt : List ℕ → ℕ → List ℕ
+channelAt ws c = take 5 (drop (5 * c) ws)
 
 -- the kind of channel c is in force
 unfoldable pub kindInForce : List ℕ → ℕ → Bool
@@ -71,24 +71,24 @@ isTable ws = eqb (length ws) 40 && allBelow 8 (kindInForce ws)
 -- the records of n channels from c on
 unfoldable pub channelsFrom : List ℕ → ℕ → ℕ → List Channel
 channelsFrom ws zero c = []
-channelsFrom ws (suc n) c = channel (stateIn (recordAt ws c)) ∷ channelsFrom ws n (c + 1)
+channelsFrom ws (suc n) c = channel (stateIn (channelAt ws c)) ∷ channelsFrom ws n (c + 1)
 
 -- the table of channels that forty words say
 unfoldable pub tableOf : List ℕ → Table
 tableOf ws = record { channels = channelsFrom ws 8 0 }
 
 -- n records from channel c on, after a call that leaves this table
-unfoldable pub recordsAfter : List ℕ → Table → ℕ → ℕ → List ℕ
-recordsAfter ws t zero c = []
-recordsAfter ws t (suc n) c = recordAfter (recordAt ws c) (stateOf t c) ++ recordsAfter ws t n (c + 1)
+unfoldable pub channelsAfter : List ℕ → Table → ℕ → ℕ → List ℕ
+channelsAfter ws t zero c = []
+channelsAfter ws t (suc n) c = channelAfter (channelAt ws c) (stateOf t c) ++ channelsAfter ws t n (c + 1)
 
 -- the words after a call that leaves this table
 unfoldable pub wordsAfter : List ℕ → Table → List ℕ
-wordsAfter ws t = recordsAfter ws t 8 0
+wordsAfter ws t = channelsAfter ws t 8 0
 
 -- the words with the record of channel c replaced
-unfoldable pub withRecord : List ℕ → ℕ → List ℕ → List ℕ
-withRecord ws c r = take (5 * c) ws ++ (r ++ drop 5 (drop (5 * c) ws))
+unfoldable pub withChannel : List ℕ → ℕ → List ℕ → List ℕ
+withChannel ws c r = take (5 * c) ws ++ (r ++ drop 5 (drop (5 * c) ws))
 
 -- a table that differs from the words at most in channel c
 pub record ChangesOnly (ws : List ℕ) (c : ℕ) (t : Table) : Type 0 where

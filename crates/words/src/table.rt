@@ -1,7 +1,7 @@
 // A table of eight channels in forty words.
-use super::record::in_force;
-use super::record::leave_state;
-use super::record::state_in;
+use super::channel::in_force;
+use super::channel::leave_state;
+use super::channel::state_in;
 use layout::Channel;
 use layout::State;
 use layout::Table;
@@ -9,7 +9,7 @@ ghost use mathlib.Core.Path.{_≡_};
 ghost use Prim.Native.Nat.{_<_};
 ghost use lib.ListN.{length};
 ghost use Rattle.layout.specs.Channels.{channel};
-ghost use Rattle.words.specs.Words.{stateIn, recordAfter, recordAt, isTable, tableOf, wordsAfter, withRecord, ChangesOnly};
+ghost use Rattle.words.specs.Words.{stateIn, channelAfter, channelAt, isTable, tableOf, wordsAfter, withChannel, ChangesOnly};
 
 // Forty words, each kind in force.
 pub fn is_table(words: &[u16]) -> bool
@@ -29,7 +29,7 @@ pub fn is_table(words: &[u16]) -> bool
 // A channel with the state that its words say.
 fn channel_at(words: &[u16], c: usize) -> Channel
     requires { ⌜ (length (now words) ≡ 40) × (c < 8) ⌝ }
-    ensures { λ r. ⌜ r ≡ channel (stateIn (recordAt (now (words .entry)) c)) ⌝ }
+    ensures { λ r. ⌜ r ≡ channel (stateIn (channelAt (now (words .entry)) c)) ⌝ }
 {
     let at = 5 * c;
     let end = at + 5;
@@ -60,7 +60,7 @@ pub fn table_of(words: &[u16]) -> Table
 // The words after a call that leaves channel c with this state and the others as they were.
 fn leave_channel(words: &mut [u16], c: usize, st: State)
     requires { ⌜ (length (now words) ≡ 40) × (c < 8) ⌝ }
-    ensures { λ _. ⌜ now (words .exit) ≡ withRecord (now (words .entry)) c (recordAfter (recordAt (now (words .entry)) c) st) ⌝ }
+    ensures { λ _. ⌜ now (words .exit) ≡ withChannel (now (words .entry)) c (channelAfter (channelAt (now (words .entry)) c) st) ⌝ }
 {
     let at = 5 * c;
     let end = at + 5;

@@ -1,14 +1,14 @@
+use Rattle.capi.proofs.Inside.{get-ends, put-ends}
+use Rattle.capi.proofs.Laws.{channel-ends}
+use Rattle.capi.specs.Leaves.{CioLeaves, cioLeaves}
+use Rattle.calls.proofs.Cases.{stays}
+use Rattle.rules.specs.declared.Command.the-variants.{Moves}
 use Rattle.words.proofs.Tables.{table-length}
 use Rattle.words.specs.Words.{isTable}
-use Rattle.capi.specs.Leaves.{CioLeaves, cioLeaves}
-use Rattle.capi.proofs.Laws.{image-ends, channel-ends, command-changes, command-few, command-ends}
-use Rattle.capi.proofs.Inside.{get-ends, put-ends}
-use Rattle.layout.proofs.Header.{served-whole}
 use Rattle.layout.proofs.Check.{check-yes}
 use borrow.Author.Tests.{not-false}
-use mathlib.Core.List.{[]}
-use mathlib.Core.Bool.{true, not}
 use mathlib.Core.Path.{_≡_, sym, ap, _∙_}
+use mathlib.Core.Bool.{true, not}
 use borrow.Author.Needs.{needs}
 use Rattle.capi.proofs.dos_cio.Statement.{statement}
 use Rattle.capi.proofs.dos_cio.Tie as tie
@@ -25,7 +25,9 @@ same-length c = search needs
 
 returns : tie.Need-returns
 unfolding cioLeaves
-returns c = let e = check-yes {A = CioLeaves} _ _ _ (ap not (sym (c .before .is-table .ensures)) ∙ c .if1 .taken) in (ap (λ o. o .result) (sym e), ap (λ o. o .image) (sym e), ap (λ o. o .table) (sym e), ap (λ o. o .buffer) (sym e))
+returns c =
+    let e = check-yes {A = CioLeaves} _ _ _ (ap not (sym (c .before .is-table .ensures)) ∙ c .if1 .taken) in
+    (ap (λ o. o .result) (sym e), ap (λ o. o .image) (sym e), ap (λ o. o .table) (sym e), ap (λ o. o .buffer) (sym e))
 
 no-channel-requires : tie.Need-no-channel-requires
 no-channel-requires c κs = search needs
@@ -39,8 +41,17 @@ same-length-3 c = search needs
 returns-2 : tie.Need-returns-2
 returns-2 c = channel-ends _ _ _ _ _ (good (c .before .before .before)) (c .before .before .if2 .taken) _ (c .no-channel .ensures)
 
-get-direct-requires : tie.Need-get-direct-requires
-get-direct-requires c κs = (table-length _ (good (c .before .before .before .before .before)), c .before .before .before .before .if2 .left)
+command-of-requires : tie.Need-command-of-requires
+command-of-requires c κs = search needs
+
+enum-known-k : tie.Need-enum-known-k
+enum-known-k c = search needs
+
+other-command-requires : tie.Need-other-command-requires
+other-command-requires c κs =
+    let at = c .before .before .before in
+    let other = stays (at .command-of .result) (c .before .before .match .keys2) in
+    (good (at .before .before), at .before .if2 .left, sym (at .command-of .ensures .0), other .0, other .1)
 
 same-length-4 : tie.Need-same-length-4
 same-length-4 c = search needs
@@ -48,14 +59,23 @@ same-length-4 c = search needs
 same-length-5 : tie.Need-same-length-5
 same-length-5 c = search needs
 
-same-length-6 : tie.Need-same-length-6
-same-length-6 c = search needs
-
 returns-3 : tie.Need-returns-3
-returns-3 c = get-ends _ _ _ _ _ (good (c .before .before .before .before .before .before .before .before .before .before)) (c .before .before .before .before .before .before .before .before .before .if2 .left) (c .before .before .before .before .before .before .before .before .if3 .taken) _ (c .before .before .before .before .get-direct .ensures .0) _ (c .before .before .before .before .get-direct .ensures .1) _ (c .before .before .before .before .get-direct .ensures .2)
+returns-3 c = c .before .before .before .before .other-command .ensures _
+
+enum-told : tie.Need-enum-told
+enum-told c = search needs
+
+get-direct-requires : tie.Need-get-direct-requires
+get-direct-requires c κs = let low = c .before .before .before .before .before .before .before .before .before in (table-length _ (good (low .before)), low .if2 .left)
+
+enum-told-2 : tie.Need-enum-told-2
+enum-told-2 c = search needs
 
 put-direct-requires : tie.Need-put-direct-requires
-put-direct-requires c κs = (table-length _ (good (c .before .before .before .before .before .before)), c .before .before .before .before .before .if2 .left)
+put-direct-requires c κs = let low = c .before .before .before .before .before .before .before .before .before in (table-length _ (good (low .before)), low .if2 .left)
+
+same-length-6 : tie.Need-same-length-6
+same-length-6 c = search needs
 
 same-length-7 : tie.Need-same-length-7
 same-length-7 c = search needs
@@ -63,35 +83,15 @@ same-length-7 c = search needs
 same-length-8 : tie.Need-same-length-8
 same-length-8 c = search needs
 
+returns-4 : tie.Need-returns-4
+returns-4 c =
+    let at = c .before .before .before .before .before .before .before .before .before .before .before .before .before in
+    let told = c .before .before .before .before .get-direct .ensures in
+    let asked = sym (at .command-of .ensures .0) ∙ c .before .before .before .before .before .before .before .before .before .before .before .k .given .1 ∙ ap Moves (c .before .before .before .before .before .before .before .before .enum-told .given .1) in
+    get-ends _ _ _ _ _ (good (at .before .before)) (at .before .if2 .left) asked _ (told .0) _ (told .1) _ (told .2)
+
 same-length-9 : tie.Need-same-length-9
 same-length-9 c = search needs
-
-returns-4 : tie.Need-returns-4
-returns-4 c = put-ends _ _ _ _ _ (good (c .before .before .before .before .before .before .before .before .before .before .before)) (c .before .before .before .before .before .before .before .before .before .before .if2 .left) (c .before .before .before .before .before .before .before .before .if4 .taken) _ (c .before .before .before .before .put-direct .ensures .0) _ (c .before .before .before .before .put-direct .ensures .1) _ (c .before .before .before .before .put-direct .ensures .2)
-
-served-as-requires : tie.Need-served-as-requires
-served-as-requires c κs = search needs
-
-enum-known-v : tie.Need-enum-known-v
-enum-known-v c = search needs
-
-table-of-requires : tie.Need-table-of-requires
-table-of-requires c κs = table-length _ (good (c .before .before .before .before .before .before .before .before .before .before))
-
-others-requires : tie.Need-others-requires
-others-requires c κs = (served-whole _ _ (sym (c .before .before .before .before .before .before .served-as .ensures .0) ∙ c .before .before .before .before .v .given .1), c .before .before .before .before .before .before .before .before .before .before .if2 .left, c .before .before .before .before .before .before .before .before .if4 .left)
-
-leave-table-requires : tie.Need-leave-table-requires
-leave-table-requires c κs = command-changes _ _ _ _ _ [] _ (good (c .before .before .before .before .before .before .before .before .before .before .before .before .before .before .before .before)) (c .before .before .before .before .before .table-of .ensures) _ (c .before .before .before .before .others .ensures [] .0) (c .before .before .before .before .before .before .before .before .before .before .before .before .before .if4 .left)
-
-pack-requires : tie.Need-pack-requires
-pack-requires c κs = command-few _ _ _ _ _ [] _ (good (c .before .before .before .before .before .before .before .before .before .before .before .before .before .before .before .before .before .before .before)) (c .before .before .before .before .before .before .before .before .table-of .ensures) _ (c .before .before .before .before .before .before .before .others .ensures [] .0) (c .before .before .before .before .before .before .before .before .before .before .before .before .before .before .before .before .if4 .left)
-
-enum-known-v-2 : tie.Need-enum-known-v-2
-enum-known-v-2 c = search needs
-
-pack-requires-2 : tie.Need-pack-requires-2
-pack-requires-2 c κs = search needs
 
 same-length-10 : tie.Need-same-length-10
 same-length-10 c = search needs
@@ -100,18 +100,11 @@ same-length-11 : tie.Need-same-length-11
 same-length-11 c = search needs
 
 returns-5 : tie.Need-returns-5
-returns-5 c = let told = c .before .before .before .before .before .before .before .before .others .ensures _ in
-    command-ends _ _ _ _ _ _ _ (good (c .before .before .before .before .before .before .before .before .before .before .before .before .before .before .before .before .before .before .before .before)) (c .before .before .before .before .before .before .before .before .before .table-of .ensures) _ (told .0) (sym (c .before .before .before .before .before .before .before .before .before .before .before .before .before .before .before .served-as .ensures .0) ∙ c .before .before .before .before .before .before .before .before .before .before .before .before .before .v .given .1) (c .before .before .before .before .before .before .before .before .before .before .before .before .before .before .before .before .before .before .before .if2 .left) (c .before .before .before .before .before .before .before .before .before .before .before .before .before .before .before .before .before .before .if3 .left)
-    _ (c .pack .ensures) _ (search needs) (told .1) _ (c .before .before .before .leave-table .ensures)
-
-same-length-12 : tie.Need-same-length-12
-same-length-12 c = search needs
-
-same-length-13 : tie.Need-same-length-13
-same-length-13 c = search needs
-
-returns-6 : tie.Need-returns-6
-returns-6 c = image-ends _ _ _ _ _ (good (c .before .before .before .before .before .before .before .before .before)) _ (sym (c .before .before .before .before .served-as .ensures .0) ∙ c .before .before .v2 .given .1) _ (c .pack2 .ensures)
+returns-5 c =
+    let at = c .before .before .before .before .before .before .before .before .before .before .before .before .before in
+    let told = c .before .before .before .before .put-direct .ensures in
+    let asked = sym (at .command-of .ensures .0) ∙ c .before .before .before .before .before .before .before .before .before .before .before .k .given .1 ∙ ap Moves (c .before .before .before .before .before .before .before .before .enum-told2 .given .1) in
+    put-ends _ _ _ _ _ (good (at .before .before)) (at .before .if2 .left) asked _ (told .0) _ (told .1) _ (told .2)
 
 pub dos-cio-spec : {M : Type 1} → statement M
 dos-cio-spec =
@@ -124,27 +117,21 @@ dos-cio-spec =
     same-length-2
     same-length-3
     returns-2
-    get-direct-requires
+    command-of-requires
+    enum-known-k
+    other-command-requires
     same-length-4
     same-length-5
-    same-length-6
     returns-3
+    enum-told
+    get-direct-requires
+    enum-told-2
     put-direct-requires
+    same-length-6
     same-length-7
     same-length-8
-    same-length-9
     returns-4
-    served-as-requires
-    enum-known-v
-    table-of-requires
-    others-requires
-    leave-table-requires
-    pack-requires
-    enum-known-v-2
-    pack-requires-2
+    same-length-9
     same-length-10
     same-length-11
-    returns-5
-    same-length-12
-    same-length-13
-    returns-6)
+    returns-5)

@@ -3,13 +3,13 @@ use Prim.Native.Nat.{_+_, _-_, _≤_}
 use native.Mathlib.Omega.{arith}
 use borrow.Author.Needs.{needs}
 use Rattle.layout.specs.Basics.{firstFrom}
-use Rattle.layout.specs.Names.{other}
+use Rattle.layout.specs.Names.{notPlain}
 use Rattle.layout.proofs.Search.{first-end, first-stop, first-next}
 use Rattle.chars.proofs.end_of.Statement.{statement}
 use Rattle.chars.proofs.end_of.Tie as tie
 
 abbrev Inv-loop : tie.InvT-loop
-Inv-loop text n i k₀ k = (i ≤ k) × (k ≤ n + i) × (firstFrom (other text) n i ≡ firstFrom (other text) (n + i - k) k)
+Inv-loop text n i k₀ k = (i ≤ k) × (k ≤ n + i) × (firstFrom (notPlain text) n i ≡ firstFrom (notPlain text) (n + i - k) k)
 
 abbrev μ-loop : tie.MeasureT-loop
 μ-loop text n i k₀ k = n + i - k
@@ -20,11 +20,11 @@ loop-holds c = let a = c .before .args in let e : a .n + a .i - a .i ≡ a .n = 
 add-loop : tie.Need-add-loop Inv-loop μ-loop
 add-loop c = search needs
 
-other-requires : tie.Need-other-requires Inv-loop μ-loop
-other-requires c κs = search needs
+not-plain-requires : tie.Need-not-plain-requires Inv-loop μ-loop
+not-plain-requires c κs = search needs
 
 returns : tie.Need-returns Inv-loop μ-loop
-returns c = (sym (c .before .before .before .loop .inv .2 ∙ first-stop _ _ _ (sym (c .before .other .ensures) ∙ c .if1 .taken)), omega arith)
+returns c = (sym (c .before .before .before .loop .inv .2 ∙ first-stop _ _ _ (sym (c .before .not-plain .ensures) ∙ c .if1 .taken)), omega arith)
 
 add-k : tie.Need-add-k Inv-loop μ-loop
 add-k c = search needs
@@ -33,7 +33,7 @@ loop-less : tie.Need-loop-less Inv-loop μ-loop
 loop-less c = search needs
 
 loop-again : tie.Need-loop-again Inv-loop μ-loop
-loop-again c = (omega arith, omega arith, c .before .before .before .loop .inv .2 ∙ first-next _ _ _ (c .before .before .loop-test .taken) (sym (c .before .other .ensures) ∙ c .if1 .left))
+loop-again c = (omega arith, omega arith, c .before .before .before .loop .inv .2 ∙ first-next _ _ _ (c .before .before .loop-test .taken) (sym (c .before .not-plain .ensures) ∙ c .if1 .left))
 
 returns-2 : tie.Need-returns-2 Inv-loop μ-loop
 returns-2 c = (sym (c .before .loop .inv .2 ∙ first-end _ _ _ (omega arith)), omega arith)
@@ -46,7 +46,7 @@ end-of-spec =
     μ-loop
     loop-holds
     add-loop
-    other-requires
+    not-plain-requires
     returns
     add-k
     loop-less

@@ -1,6 +1,6 @@
 use native.Mathlib.Omega.{arith}
 use borrow.Author.Needs.{needs}
-use Rattle.layout.specs.Names.{packed}
+use Rattle.layout.specs.Names.{asWord}
 use Rattle.names.proofs.extension_word.Statement.{statement}
 use Rattle.names.proofs.extension_word.Tie as tie
 
@@ -26,7 +26,7 @@ add-result-2 : tie.Need-add-result-2
 add-result-2 c = search needs
 
 returns : tie.Need-returns
-unfolding packed
+unfolding asWord
 returns c = omega arith
 
 pub extension-word-spec : {M : Type 1} → statement M

@@ -1,6 +1,6 @@
 use native.Mathlib.Omega.{arith}
 use borrow.Author.Needs.{needs}
-use Rattle.layout.specs.Names.{packed}
+use Rattle.layout.specs.Names.{asWord}
 use Rattle.names.proofs.name_word.Statement.{statement}
 use Rattle.names.proofs.name_word.Tie as tie
 
@@ -71,7 +71,7 @@ add-result-7 : tie.Need-add-result-7
 add-result-7 c = search needs
 
 returns : tie.Need-returns
-unfolding packed
+unfolding asWord
 returns c = omega arith
 
 pub name-word-spec : {M : Type 1} → statement M

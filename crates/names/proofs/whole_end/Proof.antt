@@ -2,7 +2,7 @@ use Prim.Native.Nat.{_+_}
 use native.Mathlib.Omega.{arith}
 use borrow.Author.Tests.{eq-eqb, ne-eqb}
 use borrow.Author.Needs.{needs}
-use Rattle.layout.specs.Names.{wholeEnd, other}
+use Rattle.layout.specs.Names.{wholeEnd, notPlain}
 use Rattle.layout.proofs.Search.{first-least}
 use Rattle.names.proofs.whole_end.Statement.{statement}
 use Rattle.names.proofs.whole_end.Tie as tie
@@ -20,7 +20,7 @@ returns : tie.Need-returns
 unfolding wholeEnd
 returns c = let a = c .before .before .before .before .args in
     let x = c .before .before .char in
-    (rw (← c .before .before .before .before .pre .2, ← x .ensures, eq-eqb (x .result) 46 (c .before .if1 .taken)) (c .end-of .ensures .0), omega (arith, first-least (other (a .text .now)) 3 (a .e + 1)), omega arith)
+    (rw (← c .before .before .before .before .pre .2, ← x .ensures, eq-eqb (x .result) 46 (c .before .if1 .taken)) (c .end-of .ensures .0), omega (arith, first-least (notPlain (a .text .now)) 3 (a .e + 1)), omega arith)
 
 returns-2 : tie.Need-returns-2
 unfolding wholeEnd

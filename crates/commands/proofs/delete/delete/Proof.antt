@@ -1,221 +1,67 @@
-use mathlib.Core.Bool.{not}
-use mathlib.Core.Path.{refl, sym, ap, _∙_, subst}
-use Prim.Native.Nat.{_<_}
-use borrow.Author.Tests.{not-false}
+use mathlib.Core.Path.{_≡_, refl, sym, ap, _∙_, subst}
 use borrow.Author.Needs.{needs}
 use Rattle.layout.specs.Image.{geometryOf, view}
-use Rattle.layout.specs.Directory.{locked}
-use Rattle.layout.proofs.Check.{check-yes, check-no, named-is, named-refused, found-at, found-nothing}
-use Rattle.rules.specs.Commands.{deleteCall}
-use Rattle.channels.specs.Below.{Below}
-use Rattle.answers.proofs.Told.{Down, Further, told, told-disk}
+use Rattle.layout.specs.Names.{readName}
+use Rattle.rules.specs.Commands.{target, deleteCall}
+use Rattle.rules.proofs.Aimed.{aimed-slot}
+use Rattle.commands.specs.InSlot.{InSlot}
+use Rattle.commands.proofs.Other.{aimed-other}
+use Rattle.rules.proofs.Told.{told, told-disk}
 use Rattle.commands.proofs.delete.delete.Statement.{statement}
 use Rattle.commands.proofs.delete.delete.Tie as tie
 
-abbrev past-open : (c : tie.Else1) → let a = c .before .before .before .before .before .args in Down (deleteCall (geometryOf (a .m)) (view (geometryOf (a .m)) (a .image .now)) (a .t) (a .c) (a .text .now))
-unfolding deleteCall
-past-open c = (_, check-no _ _ _ (sym (c .before .open-at .ensures) ∙ c .if1 .left))
-
-abbrev past-name : (c : tie.After-known-told) → Further (past-open (c .before .before .before .before))
-unfolding deleteCall
-past-name c = (_, past-open (c .before .before .before .before) .1 ∙ named-is _ _ _ (sym (c .before .before .before .read-name .ensures .0) ∙ c .before .n .given .1))
-
-abbrev past-good : (c : tie.Else2) → Further (past-name (c .before .before .before))
-unfolding deleteCall
-past-good c = (_, past-name (c .before .before .before) .1 ∙ check-no _ _ _ (ap not (sym (c .before .table-good .ensures)) ∙ c .if2 .left))
-
-abbrev past-found : (c : tie.After-known-told2) → Further (past-good (c .before .before .before .before .before))
-unfolding deleteCall
-past-found c = (_, past-good (c .before .before .before .before .before) .1 ∙ found-at _ _ _ (sym (c .before .before .before .find .ensures .0 .0) ∙ c .before .f .given .1))
-
-abbrev past-locked : (c : tie.Else3) → Further (past-found (c .before .before .before .before .before .before))
-unfolding deleteCall
-past-locked c =
-    let p1 = c .before .before .before in
-    let p2 = p1 .before .before .before in
-    (_, past-found p2 .1 ∙ check-no _ _ _ (ap locked (sym (p1 .before .flag .ensures)) ∙ sym (p1 .locked .ensures) ∙ c .if3 .left))
-
-abbrev past-held : (c : tie.Else4) → Further (past-locked (c .before))
-unfolding deleteCall
-past-held c = (_, past-locked (c .before) .1 ∙ check-no _ _ _ (sym (c .before .before .held .ensures) ∙ c .if4 .left))
-
-below : (c : tie.After-f) → c .f .given .0 .0 < 64
-below c = subst Below (c .f .given .1) (c .before .before .find .ensures .1)
-
-cast-open-at : tie.Need-cast-open-at
-cast-open-at c = search needs
-
-open-at-requires : tie.Need-open-at-requires
-open-at-requires c κs = search needs
-
-answer-requires : tie.Need-answer-requires
-answer-requires c κs = search needs
-
-returns : tie.Need-returns
-unfolding deleteCall
-returns c = let e = check-yes _ _ _ (sym (c .before .before .open-at .ensures) ∙ c .before .if1 .taken) in (told _ e (c .answer .ensures), told-disk _ e refl)
+-- the target found is that of the name in the text
+aim : (c : tie.After-find-target) → let a = c .before .before .before .before .before .args in c .find-target .result ≡ target (view (geometryOf (a .m)) (a .image .now)) (readName (a .text .now))
+aim c = c .find-target .ensures .0 .0 ∙ ap (target _) (c .before .read-name .ensures .0)
 
 read-name-requires : tie.Need-read-name-requires
 read-name-requires c κs = search needs
 
-enum-known-n : tie.Need-enum-known-n
-enum-known-n c = search needs
+find-target-requires : tie.Need-find-target-requires
+find-target-requires c κs = search needs
 
-enum-told : tie.Need-enum-told
-enum-told c = search needs
+enum-known-a : tie.Need-enum-known-a
+enum-known-a c = search needs
 
-name-status-requires : tie.Need-name-status-requires
-name-status-requires c κs = search needs
+target-status-requires : tie.Need-target-status-requires
+target-status-requires c κs = search needs
 
-answer-requires-2 : tie.Need-answer-requires-2
-answer-requires-2 c κs = search needs
-
-returns-2 : tie.Need-returns-2
-unfolding deleteCall
-returns-2 c =
-    let p1 = c .before .before .before .before in
-    let q = c .before .before .enum-told .given .1 in let e = past-open (p1 .before) .1 ∙ named-refused _ _ _ (sym (p1 .read-name .ensures .0) ∙ q) in (told _ e (c .answer2 .ensures ∙ rw (c .before .name-status .ensures, q)), told-disk _ e refl)
-
-table-good-requires : tie.Need-table-good-requires
-table-good-requires c κs = search needs
-
-answer-requires-3 : tie.Need-answer-requires-3
-answer-requires-3 c κs = search needs
+answer-requires : tie.Need-answer-requires
+answer-requires c κs = search needs
 
 same-length : tie.Need-same-length
 same-length c = search needs
 
-returns-3 : tie.Need-returns-3
+returns : tie.Need-returns
 unfolding deleteCall
-returns-3 c = let e = past-name (c .before .before .before .before) .1 ∙ check-yes _ _ _ (ap not (sym (c .before .before .table-good .ensures)) ∙ c .before .if2 .taken) in (told _ e (c .answer3 .ensures), told-disk _ e refl)
+returns c = let e = aimed-other _ _ _ _ _ _ (aim (c .before .before .before)) (c .before .before .match .keys2) in (told _ e (c .answer .ensures ∙ rw (c .before .target-status .ensures)), told-disk _ e refl)
 
-find-requires : tie.Need-find-requires
-find-requires c κs = search needs
-
-enum-known-f : tie.Need-enum-known-f
-enum-known-f c = search needs
-
-enum-told-2 : tie.Need-enum-told-2
-enum-told-2 c = search needs
-
-answer-requires-4 : tie.Need-answer-requires-4
-answer-requires-4 c κs = search needs
+delete-at-requires : tie.Need-delete-at-requires
+delete-at-requires c κs =
+    let p1 = c .before .before .before .before in
+    let p2 = p1 .before .before .before .before .before in
+    (p2 .pre, subst InSlot (c .before .before .a .given .1) (p1 .find-target .ensures .1))
 
 same-length-2 : tie.Need-same-length-2
 same-length-2 c = search needs
 
-returns-4 : tie.Need-returns-4
+returns-2 : tie.Need-returns-2
 unfolding deleteCall
-returns-4 c = let e = past-good (c .before .before .before .before .before) .1 ∙ found-nothing _ _ _ (sym (c .before .before .before .find .ensures .0 .0) ∙ c .before .enum-told2 .given .1) in (told _ e (c .answer4 .ensures), told-disk _ e refl)
-
-flag-requires : tie.Need-flag-requires
-flag-requires c κs = (c .before .before .before .before .before .before .before .before .before .before .before .before .before .before .before .before .before .before .pre .0, below (c .before .before))
-
-locked-requires : tie.Need-locked-requires
-locked-requires c κs = search needs
-
-held-requires : tie.Need-held-requires
-held-requires c κs =
+returns-2 c =
     let p1 = c .before .before .before .before .before in
-    let p2 = p1 .before .before .before .before .before .before .before .before .before .before .before .before .before .before .before .before in
-    (p2 .pre .0, below p1)
-
-answer-requires-5 : tie.Need-answer-requires-5
-answer-requires-5 c κs = search needs
-
-same-length-3 : tie.Need-same-length-3
-same-length-3 c = search needs
-
-returns-5 : tie.Need-returns-5
-unfolding deleteCall
-returns-5 c =
-    let p1 = c .before .before .before .before in
-    let p2 = p1 .before .before .before in
-    let e = past-found p2 .1 ∙ check-yes _ _ _ (ap locked (sym (p1 .before .flag .ensures)) ∙ sym (p1 .locked .ensures) ∙ c .before .if3 .taken) in (told _ e (c .answer5 .ensures), told-disk _ e refl)
-
-answer-requires-6 : tie.Need-answer-requires-6
-answer-requires-6 c κs = search needs
-
-same-length-4 : tie.Need-same-length-4
-same-length-4 c = search needs
-
-returns-6 : tie.Need-returns-6
-unfolding deleteCall
-returns-6 c = let e = past-locked (c .before .before) .1 ∙ check-yes _ _ _ (sym (c .before .before .before .held .ensures) ∙ c .before .if4 .taken) in (told _ e (c .answer6 .ensures), told-disk _ e refl)
-
-clean-requires : tie.Need-clean-requires
-clean-requires c κs =
-    let p1 = c .before .before .before .before .before .before .before .before .before in
-    let p2 = p1 .before .before .before .before .before .before .before .before .before .before .before .before .before .before .before .before in
-    (p2 .pre .0, below p1)
-
-answer-requires-7 : tie.Need-answer-requires-7
-answer-requires-7 c κs = search needs
-
-same-length-5 : tie.Need-same-length-5
-same-length-5 c = search needs
-
-returns-7 : tie.Need-returns-7
-unfolding deleteCall
-returns-7 c = let e = past-held (c .before .before .before .before) .1 ∙ check-yes _ _ _ (ap not (sym (c .before .before .clean .ensures)) ∙ c .before .if5 .taken) in (told _ e (c .answer7 .ensures), told-disk _ e refl)
-
-delete-requires : tie.Need-delete-requires
-delete-requires c κs =
-    let p1 = c .before .before .before .before .before .before .before .before .before .before .before .before in
-    let p2 = p1 .before .before .before .before .before .before .before .before .before .before .before .before .before .before .before .before in
-    (p2 .pre .0, below p1, sym (c .before .before .clean .ensures) ∙ not-false _ (c .before .if5 .left))
-
-answer-requires-8 : tie.Need-answer-requires-8
-answer-requires-8 c κs = search needs
-
-same-length-6 : tie.Need-same-length-6
-same-length-6 c = search needs
-
-returns-8 : tie.Need-returns-8
-unfolding deleteCall
-returns-8 c =
-    let p1 = c .before .before .before in
-    let p2 = p1 .before .before .before in
-    let e = past-held (p2 .before .before) .1 ∙ check-no _ _ _ (ap not (sym (p2 .clean .ensures)) ∙ p1 .before .before .if5 .left) in (told _ e (c .answer8 .ensures), told-disk _ e (p1 .delete .ensures))
+    let r = c .before .before .delete-at .ensures in let e = aimed-slot _ _ _ _ _ (sym (aim (p1 .before .before)) ∙ p1 .a .given .1) in (told _ e (r .0), told-disk _ e (r .1))
 
 pub delete-spec : {M : Type 1} → statement M
 delete-spec =
     tie.close
     (tie.spec
-    cast-open-at
-    open-at-requires
-    answer-requires
-    returns
     read-name-requires
-    enum-known-n
-    enum-told
-    name-status-requires
-    answer-requires-2
-    returns-2
-    table-good-requires
-    answer-requires-3
+    find-target-requires
+    enum-known-a
+    target-status-requires
+    answer-requires
     same-length
-    returns-3
-    find-requires
-    enum-known-f
-    enum-told-2
-    answer-requires-4
+    returns
+    delete-at-requires
     same-length-2
-    returns-4
-    flag-requires
-    locked-requires
-    held-requires
-    answer-requires-5
-    same-length-3
-    returns-5
-    answer-requires-6
-    same-length-4
-    returns-6
-    clean-requires
-    answer-requires-7
-    same-length-5
-    returns-7
-    delete-requires
-    answer-requires-8
-    same-length-6
-    returns-8)
+    returns-2)

@@ -4,7 +4,7 @@ use mathlib.Core.Path.{_≡_, refl, sym, ap, _∙_}
 use Prim.Native.Nat.{_+_, _-_, _*_, _/_, _%_, _≤_}
 use native.Mathlib.Omega.{arith}
 use Rattle.layout.specs.Image.{geometryOf, view}
-use Rattle.layout.specs.Directory.{standing, bearsBeside}
+use Rattle.layout.specs.Directory.{standingFlag, bearsBeside}
 use Rattle.layout.specs.Names.{nameByte}
 use Rattle.layout.specs.Status.{success, nameTaken}
 use Rattle.layout.proofs.Tells.{tells-found}
@@ -28,15 +28,15 @@ loop-holds c = (omega arith, c .slot-start .ensures .0, refl)
 entry-at-requires : tie.Need-entry-at-requires Inv-loop μ-loop
 entry-at-requires c κs = search needs
 
-standing-requires : tie.Need-standing-requires Inv-loop μ-loop
-standing-requires c κs = search needs
+standing-flag-requires : tie.Need-standing-flag-requires Inv-loop μ-loop
+standing-flag-requires c κs = search needs
 
 same-name-requires : tie.Need-same-name-requires Inv-loop μ-loop
 same-name-requires c κs = search needs
 
 returns : tie.Need-returns Inv-loop μ-loop
 returns c =
-    let t = ap standing (sym (c .before .before .before .before .entry-at .ensures)) ∙ sym (c .before .before .before .standing .ensures) ∙ c .before .before .if1 .taken in
+    let t = ap standingFlag (sym (c .before .before .before .before .entry-at .ensures)) ∙ sym (c .before .before .before .standing-flag .ensures) ∙ c .before .before .if1 .taken in
     let l = c .before .before .before .before .before .loop-test .taken in
     (tells-found nameTaken success (search-pass _ _ _ (c .before .before .before .before .before .before .loop .inv .2) l (standing-nonzero _ t) (beside-stands _ _ _ _ true t (rw (← c .before .same-name .ensures) (c .if2 .taken)))), l)
 
@@ -55,7 +55,7 @@ loop-less c = search needs
 loop-again : tie.Need-loop-again Inv-loop μ-loop
 loop-again c =
     let f = c .before .before .before .entry-at .ensures in
-    let t = ap standing (sym f) ∙ sym (c .before .before .standing .ensures) in
+    let t = ap standingFlag (sym f) ∙ sym (c .before .before .standing-flag .ensures) in
     let next = search-next _ _ _ (c .before .before .before .before .before .loop .inv .2) (c .before .before .before .before .loop-test .taken) in (
       omega arith,
       c .slot-after .ensures,
@@ -76,7 +76,7 @@ find-slot-spec =
     slot-start-requires
     loop-holds
     entry-at-requires
-    standing-requires
+    standing-flag-requires
     same-name-requires
     returns
     returns-2

@@ -5,17 +5,17 @@ use borrow.Author.Needs.{needs}
 use Rattle.directory.proofs.find.same_name.Statement.{statement}
 use Rattle.directory.proofs.find.same_name.Tie as tie
 
-name-word-at-requires : tie.Need-name-word-at-requires
-name-word-at-requires c κs = search needs
+slot-name-at-requires : tie.Need-slot-name-at-requires
+slot-name-at-requires c κs = search needs
 
-extension-word-at-requires : tie.Need-extension-word-at-requires
-extension-word-at-requires c κs = search needs
+slot-extension-at-requires : tie.Need-slot-extension-at-requires
+slot-extension-at-requires c κs = search needs
 
 returns : tie.Need-returns
 returns c =
     let a = c .before .before .before .args in
     let l = a .image .now in
-    rw (c .before .name-word-at .ensures, c .extension-word-at .ensures) (name-words (view (geometryOf (a .m)) l) (view-small _ l (λ i. c .before .before .shared-slice-known .given i .fits)) (a .slot) (a .name) (a .extension) (c .before .before .before .fits .name .fits))
+    rw (c .before .slot-name-at .ensures, c .slot-extension-at .ensures) (name-words (view (geometryOf (a .m)) l) (view-small _ l (λ i. c .before .before .shared-slice-known .given i .fits)) (a .slot) (a .name) (a .extension) (c .before .before .before .fits .name .fits))
 
 pub same-name-spec : {M : Type 1} → statement M
-same-name-spec = tie.close (tie.spec name-word-at-requires extension-word-at-requires returns)
+same-name-spec = tie.close (tie.spec slot-name-at-requires slot-extension-at-requires returns)

@@ -6,8 +6,8 @@ use Rattle.gets.proofs.Getting.{gets-on, gets-here}
 use native.Mathlib.Omega.{arith}
 use mathlib.Core.Path.{refl}
 
-used-requires : tie.Need-used-requires
-used-requires c κs = search needs
+in-use-requires : tie.Need-in-use-requires
+in-use-requires c κs = search needs
 
 cast-n : tie.Need-cast-n
 cast-n c = search needs
@@ -79,7 +79,7 @@ pub get-here-spec : {M : Type 1} → statement M
 get-here-spec =
     tie.close
     (tie.spec
-    used-requires
+    in-use-requires
     cast-n
     sub-least
     cast-least

@@ -2,15 +2,14 @@ use mathlib.Core.Path.{refl, sym, ap, _∙_, subst}
 use Prim.Native.Nat.{_<_}
 use borrow.Author.Needs.{needs}
 use Rattle.layout.specs.Image.{geometryOf, view}
-use Rattle.layout.specs.Directory.{output}
+use Rattle.layout.specs.Directory.{Below, outputFlag}
 use Rattle.layout.proofs.Check.{check-yes, check-no, named-is, named-refused, found-at, found-nothing}
 use Rattle.rules.specs.Commands.{openRead}
-use Rattle.channels.specs.Below.{Below}
-use Rattle.answers.proofs.Told.{Down, Further, told, told-disk}
+use Rattle.rules.proofs.Told.{Down, Further, told, told-disk}
 use Rattle.opens.proofs.open.open_read.Statement.{statement}
 use Rattle.opens.proofs.open.open_read.Tie as tie
 
-abbrev past-name : (c : tie.After-known-told) → let a = c .before .before .before .before .before .before .args in Down (openRead (geometryOf (a .m)) (view (geometryOf (a .m)) (a .image .now)) (a .t) (a .c) (a .text .now))
+abbrev past-name : (c : tie.After-known-told) → let a = c .before .before .before .before .before .before .args in Down (openRead (geometryOf (a .m)) (view (geometryOf (a .m)) (a .image .now)) (a .t) (a .channel) (a .text .now))
 unfolding openRead
 past-name c = (_, named-is _ _ _ (sym (c .before .before .before .read-name .ensures .0) ∙ c .before .n .given .1))
 
@@ -59,24 +58,21 @@ returns-2 c = let e = past-name (c .before .before .before .before) .1 ∙ found
 flag-requires : tie.Need-flag-requires
 flag-requires c κs = (c .before .before .before .before .before .before .before .before .before .before .pre .0, below (c .before))
 
-output-requires : tie.Need-output-requires
-output-requires c κs = search needs
+output-flag-requires : tie.Need-output-flag-requires
+output-flag-requires c κs = search needs
 
 answer-requires-3 : tie.Need-answer-requires-3
 answer-requires-3 c κs = search needs
 
 returns-3 : tie.Need-returns-3
 unfolding openRead
-returns-3 c = let e = past-found (c .before .before .before .before) .1 ∙ check-yes _ _ _ (ap output (sym (c .before .before .before .flag .ensures)) ∙ sym (c .before .before .output .ensures) ∙ c .before .if1 .taken) in (told _ e (c .answer3 .ensures), told-disk _ e refl)
+returns-3 c = let e = past-found (c .before .before .before .before) .1 ∙ check-yes _ _ _ (ap outputFlag (sym (c .before .before .before .flag .ensures)) ∙ sym (c .before .before .output-flag .ensures) ∙ c .before .if1 .taken) in (told _ e (c .answer3 .ensures), told-disk _ e refl)
 
 count-requires : tie.Need-count-requires
 count-requires c κs =
     let p1 = c .before .before .before .before in
     let p2 = p1 .before .before .before .before .before .before .before .before .before in
     (p2 .pre .0, below p1)
-
-cast-with-state : tie.Need-cast-with-state
-cast-with-state c = search needs
 
 with-state-requires : tie.Need-with-state-requires
 with-state-requires c κs = search needs
@@ -89,7 +85,7 @@ unfolding openRead
 returns-4 c =
     let p1 = c .before .before .before in
     let p2 = p1 .before .before .before in
-    let e = past-found (p2 .before) .1 ∙ check-no _ _ _ (ap output (sym (p2 .flag .ensures)) ∙ sym (p1 .before .before .output .ensures) ∙ p1 .before .if1 .left) in (told _ e (c .answer4 .ensures ∙ rw (c .before .with-state .ensures, p1 .count .ensures)), told-disk _ e refl)
+    let e = past-found p2 .1 ∙ check-no _ _ _ (ap outputFlag (sym (p1 .before .before .flag .ensures)) ∙ sym (p1 .before .output-flag .ensures) ∙ p1 .if1 .left) in (told _ e (c .answer4 .ensures ∙ rw (c .before .with-state .ensures, c .before .before .count .ensures)), told-disk _ e refl)
 
 pub open-read-spec : {M : Type 1} → statement M
 open-read-spec =
@@ -107,11 +103,10 @@ open-read-spec =
     answer-requires-2
     returns-2
     flag-requires
-    output-requires
+    output-flag-requires
     answer-requires-3
     returns-3
     count-requires
-    cast-with-state
     with-state-requires
     answer-requires-4
     returns-4)

@@ -5,20 +5,20 @@ use borrow.Author.Needs.{needs}
 use Rattle.puts.proofs.add.chain.Statement.{statement}
 use Rattle.puts.proofs.add.chain.Tie as tie
 
-set-used-requires : tie.Need-set-used-requires
-set-used-requires c κs = search needs
+mark-used-requires : tie.Need-mark-used-requires
+mark-used-requires c κs = search needs
 
-put-link-requires : tie.Need-put-link-requires
-put-link-requires c κs = search needs
+write-link-requires : tie.Need-write-link-requires
+write-link-requires c κs = search needs
 
-cast-put-used : tie.Need-cast-put-used
-cast-put-used c = search needs
+cast-write-in-use : tie.Need-cast-write-in-use
+cast-write-in-use c = search needs
 
-put-used-requires : tie.Need-put-used-requires
-put-used-requires c κs = search needs
+write-in-use-requires : tie.Need-write-in-use-requires
+write-in-use-requires c κs = search needs
 
-put-run-requires : tie.Need-put-run-requires
-put-run-requires c κs =
+write-run-requires : tie.Need-write-run-requires
+write-run-requires c κs =
     let a = c .before .before .before .before .before .before .before .before .before .before .before .before .before .before .before in
     let z = lawful _ (a .pre .0 .0) .whole (a .args .sector) (a .pre .4) in
     omega arith
@@ -34,10 +34,10 @@ pub chain-spec : {M : Type 1} → statement M
 chain-spec =
     tie.close
     (tie.spec
-    set-used-requires
-    put-link-requires
-    cast-put-used
-    put-used-requires
-    put-run-requires
+    mark-used-requires
+    write-link-requires
+    cast-write-in-use
+    write-in-use-requires
+    write-run-requires
     same-length
     returns)

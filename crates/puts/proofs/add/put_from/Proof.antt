@@ -44,8 +44,8 @@ returns c =
     let q = data-facts _ (c .before .before .before .before .before .before .before .loop .inv .1) in
     (c .added .ensures ∙ sym (e .0), c .before .before .before .before .room .ensures .1 ∙ room-zero _ _ _ _ (omega arith) z ∙ sym (e .1))
 
-used-requires : tie.Need-used-requires Inv-loop μ-loop
-used-requires c κs = let w = spot (c .before) in omega arith
+in-use-requires : tie.Need-in-use-requires Inv-loop μ-loop
+in-use-requires c κs = let w = spot (c .before) in omega arith
 
 cast-n : tie.Need-cast-n Inv-loop μ-loop
 cast-n c = search needs
@@ -120,7 +120,7 @@ put-from-spec =
     added-requires
     same-length
     returns
-    used-requires
+    in-use-requires
     cast-n
     sub-least
     sub-least-2

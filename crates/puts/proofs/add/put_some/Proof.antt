@@ -8,8 +8,8 @@ use borrow.Author.Needs.{needs}
 use Rattle.puts.proofs.add.put_some.Statement.{statement}
 use Rattle.puts.proofs.add.put_some.Tie as tie
 
-used-requires : tie.Need-used-requires
-used-requires c κs = let q = data-facts _ (c .before .before .before .pre .2) in omega arith
+in-use-requires : tie.Need-in-use-requires
+in-use-requires c κs = let q = data-facts _ (c .before .before .before .pre .2) in omega arith
 
 cast-had : tie.Need-cast-had
 cast-had c = search needs
@@ -38,7 +38,7 @@ put-new-requires : tie.Need-put-new-requires
 put-new-requires c κs =
     let a = c .before .before .before .before .before .before .before in
     let room = a .args .m .density .room in
-    let t = one-more (c .before .before .before .used .result) room (length (a .args .buffer .now)) room (c .before .if2 .taken) in
+    let t = one-more (c .before .before .before .in-use .result) room (length (a .args .buffer .now)) room (c .before .if2 .taken) in
     (a .pre .0, a .pre .1, a .pre .2, a .pre .3, omega arith, omega arith, t .1)
 
 same-length-2 : tie.Need-same-length-2
@@ -60,7 +60,7 @@ pub put-some-spec : {M : Type 1} → statement M
 put-some-spec =
     tie.close
     (tie.spec
-    used-requires
+    in-use-requires
     cast-had
     add-if1
     add-run-requires

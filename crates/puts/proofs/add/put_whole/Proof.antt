@@ -20,8 +20,8 @@ come-to-requires c κs = search needs
 returns : tie.Need-returns
 returns c = let a = c .before .before .before .before in rw (c .come-to .ensures) (a .pre .2, a .pre .4, puts-start (a .pre .3))
 
-used-requires : tie.Need-used-requires
-used-requires c κs = let q = data-facts _ (c .before .before .before .before .pre .2) in omega arith
+in-use-requires : tie.Need-in-use-requires
+in-use-requires c κs = let q = data-facts _ (c .before .before .before .before .pre .2) in omega arith
 
 cast-if2 : tie.Need-cast-if2
 cast-if2 c = search needs
@@ -116,7 +116,7 @@ put-whole-spec =
     add-if1
     come-to-requires
     returns
-    used-requires
+    in-use-requires
     cast-if2
     come-to-requires-2
     same-length

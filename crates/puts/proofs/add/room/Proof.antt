@@ -9,8 +9,8 @@ use borrow.Author.Needs.{needs}
 use Rattle.puts.proofs.add.room.Statement.{statement}
 use Rattle.puts.proofs.add.room.Tie as tie
 
-used-requires : tie.Need-used-requires
-used-requires c κs = let q = data-facts _ (c .before .before .pre .2) in omega arith
+in-use-requires : tie.Need-in-use-requires
+in-use-requires c κs = let q = data-facts _ (c .before .before .pre .2) in omega arith
 
 cast-if1 : tie.Need-cast-if1
 cast-if1 c = search needs
@@ -63,7 +63,7 @@ pub room-spec : {M : Type 1} → statement M
 room-spec =
     tie.close
     (tie.spec
-    used-requires
+    in-use-requires
     cast-if1
     same-length
     returns

@@ -3,20 +3,20 @@ use borrow.Author.Needs.{needs}
 use Rattle.puts.proofs.add.settle.Statement.{statement}
 use Rattle.puts.proofs.add.settle.Tie as tie
 
-put-link-requires : tie.Need-put-link-requires
-put-link-requires c κs = search needs
+write-link-requires : tie.Need-write-link-requires
+write-link-requires c κs = search needs
 
 count-requires : tie.Need-count-requires
 count-requires c κs = search needs
 
-cast-put-count : tie.Need-cast-put-count
-cast-put-count c = search needs
+cast-write-count : tie.Need-cast-write-count
+cast-write-count c = search needs
 
-add-put-count : tie.Need-add-put-count
-add-put-count c = search needs
+add-write-count : tie.Need-add-write-count
+add-write-count c = search needs
 
-put-count-requires : tie.Need-put-count-requires
-put-count-requires c κs = search needs
+write-count-requires : tie.Need-write-count-requires
+write-count-requires c κs = search needs
 
 free-count-requires : tie.Need-free-count-requires
 free-count-requires c κs = search needs
@@ -24,8 +24,8 @@ free-count-requires c κs = search needs
 less-requires : tie.Need-less-requires
 less-requires c κs = search needs
 
-set-free-count-requires : tie.Need-set-free-count-requires
-set-free-count-requires c κs = search needs
+write-free-count-requires : tie.Need-write-free-count-requires
+write-free-count-requires c κs = search needs
 
 same-length : tie.Need-same-length
 same-length c = search needs
@@ -38,13 +38,13 @@ pub settle-spec : {M : Type 1} → statement M
 settle-spec =
     tie.close
     (tie.spec
-    put-link-requires
+    write-link-requires
     count-requires
-    cast-put-count
-    add-put-count
-    put-count-requires
+    cast-write-count
+    add-write-count
+    write-count-requires
     free-count-requires
     less-requires
-    set-free-count-requires
+    write-free-count-requires
     same-length
     returns)

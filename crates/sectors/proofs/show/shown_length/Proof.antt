@@ -28,14 +28,14 @@ enters-requires c κs = served-whole _ _ (sym (c .before .before .before .served
 returns-2 : tie.Need-returns-2
 returns-2 c = sym (length-no _ _ _ _ (sym (c .before .before .before .before .before .served-as .ensures .0) ∙ c .before .before .before .v .given .1) (sym (c .before .enters .ensures) ∙ not-true _ (c .if1 .taken)))
 
-used-requires : tie.Need-used-requires
-used-requires c κs = let w = served-whole _ _ (sym (c .before .before .before .before .before .served-as .ensures .0) ∙ c .before .before .before .v .given .1) in let t = enters-true _ _ _ _ (sym (c .before .enters .ensures) ∙ not-false _ (c .if1 .left)) in omega arith
+in-use-requires : tie.Need-in-use-requires
+in-use-requires c κs = let w = served-whole _ _ (sym (c .before .before .before .before .before .served-as .ensures .0) ∙ c .before .before .before .v .given .1) in let t = enters-true _ _ _ _ (sym (c .before .enters .ensures) ∙ not-false _ (c .if1 .left)) in omega arith
 
 cast-result : tie.Need-cast-result
 cast-result c = search needs
 
 returns-3 : tie.Need-returns-3
-returns-3 c = c .used .ensures ∙ sym (length-yes _ _ _ _ (sym (c .before .before .before .before .before .before .served-as .ensures .0) ∙ c .before .before .before .before .v .given .1) (sym (c .before .before .enters .ensures) ∙ not-false _ (c .before .if1 .left)))
+returns-3 c = c .in-use .ensures ∙ sym (length-yes _ _ _ _ (sym (c .before .before .before .before .before .before .served-as .ensures .0) ∙ c .before .before .before .before .v .given .1) (sym (c .before .before .enters .ensures) ∙ not-false _ (c .before .if1 .left)))
 
 pub shown-length-spec : {M : Type 1} → statement M
 shown-length-spec =
@@ -47,6 +47,6 @@ shown-length-spec =
     returns
     enters-requires
     returns-2
-    used-requires
+    in-use-requires
     cast-result
     returns-3)

@@ -3,7 +3,7 @@ use Prim.Native.Nat.{_+_, _*_, _-_}
 use native.Mathlib.Omega.{arith}
 use borrow.Author.Needs.{needs}
 use Rattle.layout.specs.Channels.{channel}
-use Rattle.words.specs.Words.{recordAt}
+use Rattle.words.specs.Words.{channelAt}
 use Rattle.words.proofs.table.channel_at.Statement.{statement}
 use Rattle.words.proofs.table.channel_at.Tie as tie
 
@@ -29,7 +29,7 @@ state-in-requires : tie.Need-state-in-requires
 state-in-requires c κs = search needs
 
 returns : tie.Need-returns
-unfolding recordAt
+unfolding channelAt
 returns c =
     let args = c .before .before .before .args in
     let k : 5 * args .c + 5 - 5 * args .c ≡ 5 = omega arith in ap channel (rw k at (c .state-in .ensures))

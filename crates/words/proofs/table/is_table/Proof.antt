@@ -1,7 +1,7 @@
 use lib.ListN.{length}
 use borrow.Author.Tests.{eq-eqb, ne-eqb}
 use borrow.Author.Needs.{needs}
-use Rattle.words.proofs.Records.{all-eight}
+use Rattle.words.proofs.Channels.{all-eight}
 use Rattle.words.specs.Words.{isTable, kindInForce}
 use Rattle.words.proofs.table.is_table.Statement.{statement}
 use Rattle.words.proofs.table.is_table.Tie as tie

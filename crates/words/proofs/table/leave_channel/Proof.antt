@@ -2,7 +2,7 @@ use mathlib.Core.Path.{_≡_}
 use Prim.Native.Nat.{_+_, _*_, _-_}
 use native.Mathlib.Omega.{arith}
 use borrow.Author.Needs.{needs}
-use Rattle.words.specs.Words.{withRecord, recordAt}
+use Rattle.words.specs.Words.{withChannel, channelAt}
 use Rattle.words.proofs.table.leave_channel.Statement.{statement}
 use Rattle.words.proofs.table.leave_channel.Tie as tie
 
@@ -31,7 +31,7 @@ same-length : tie.Need-same-length
 same-length c = search needs
 
 returns : tie.Need-returns
-unfolding withRecord recordAt
+unfolding withChannel channelAt
 returns c =
     let args = c .before .before .before .before .before .args in
     let k : 5 * args .c + 5 - 5 * args .c ≡ 5 = omega arith in let e = rw k at (c .before .before .leave-state .ensures) in rw (k, e)

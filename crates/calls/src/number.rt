@@ -1,0 +1,26 @@
+// The command of each number.
+use layout::status;
+use rules::Command;
+use rules::FileCommand;
+use rules::Transfer;
+ghost use Rattle.rules.specs.Cio.{commandOf, TellsCommand};
+
+// What a command number asks for: 132 for 0 to 2, 168 for any other not listed.
+pub fn command_of(n: u8) -> Command
+    ensures { λ r. ⌜ TellsCommand (commandOf n) r ⌝ }
+{
+    match n {
+        3 => Command::Files(FileCommand::Open),
+        7 => Command::Moves(Transfer::Get),
+        11 => Command::Moves(Transfer::Put),
+        12 => Command::Close,
+        13 => Command::Files(FileCommand::Status),
+        32 => Command::Files(FileCommand::Rename),
+        33 => Command::Files(FileCommand::Delete),
+        35 => Command::Files(FileCommand::Lock),
+        36 => Command::Files(FileCommand::Unlock),
+        254 => Command::Files(FileCommand::Format),
+        0..=2 => Command::Unlisted(status::BAD_COMMAND),
+        _ => Command::Unlisted(status::NOT_SERVED),
+    }
+}

@@ -1,0 +1,60 @@
+-- The other way: a call that passes its checks does what its command does.
+use mathlib.Core.Bool.{true}
+use mathlib.Core.Path.{_≡_, ap, _∙_}
+use mathlib.Core.List.{List}
+use Prim.Native.Nat.{ℕ}
+use lib.Dec.{leb, eqb}
+use borrow.Author.Tests.{lt-leb}
+use Rattle.layout.specs.declared.State.{State}
+use Rattle.layout.specs.declared.State.the-variants.{Closed, Reading}
+use Rattle.layout.specs.declared.Table.{Table}
+use Rattle.rules.specs.declared.Block.{Block}
+use Rattle.rules.specs.declared.Transfer.the-variants.{Get, Put}
+use Rattle.rules.specs.declared.Command.{Command}
+use Rattle.rules.specs.declared.Command.the-variants.{Moves}
+use Rattle.layout.specs.Image.{Disk, Geometry}
+use Rattle.layout.specs.Directory.{count, writeFlag, is43}
+use Rattle.layout.specs.Channels.{stateOf, withState, openAt, allOpen}
+use Rattle.layout.proofs.Check.{check-yes, check-no, named-is, found-at}
+use Rattle.layout.proofs.Search.{all-fails}
+use Rattle.rules.specs.Get.{getOn}
+use Rattle.rules.specs.Put.{putOn}
+use Rattle.rules.specs.Commands.{Effect, done, putAt, openRead, openCall, closeState, closeCall, fileCommand, onClosed}
+use Rattle.rules.specs.Cio.{Outcome, getAt, transfer, command, cio}
+use Rattle.rules.proofs.Acts.{On, Opens, Closes}
+use Rattle.rules.proofs.Ends.{getLeaves, putLeaves}
+
+module _ (g : Geometry) (d : Disk) (t : Table) (c : Block) (text b : List ℕ) where
+  -- on a channel below 8
+  pub does : {k : Command} → On c k → cio g d t c text b ≡ command g d t k c text b
+  unfolding cio
+  does o = check-no {A = Outcome} (leb 8 (c .channel)) _ _ (lt-leb 8 (c .channel) (o .small)) ∙ ap (λ k. command g d t k c text b) (o .command)
+
+  does-effect : {k : Command} → On c k → cio g d t c text b .effect ≡ command g d t k c text b .effect
+  does-effect o = ap (λ (r : Outcome). r .effect) (does o)
+
+  -- a get and a put, on a channel in this state
+  pub does-get : On c (Moves Get) → {st : State} → stateOf t (c .channel) ≡ st → cio g d t c text b ≡ getLeaves d t (c .channel) (getOn g d st b)
+  unfolding command transfer getAt
+  does-get o e = does o ∙ ap (λ st. getLeaves d t (c .channel) (getOn g d st b)) e
+
+  pub does-put : On c (Moves Put) → {st : State} → stateOf t (c .channel) ≡ st → cio g d t c text b .effect ≡ putLeaves t (c .channel) (putOn g d st b)
+  unfolding command transfer putAt
+  does-put o e = does-effect o ∙ ap (λ st. putLeaves t (c .channel) (putOn g d st b)) e
+
+  -- a close of a channel that writes a slot with $43
+  pub does-close : (s p : ℕ) → Closes g d t c s p → is43 d s ≡ true → cio g d t c text b .effect ≡ done g d t (writeFlag d s 0x42) (withState t (c .channel) Closed)
+  unfolding command closeCall closeState
+  does-close s p h o = does-effect (h .on) ∙ ap (closeState g d t (c .channel)) (h .state) ∙ check-no {A = Effect} _ _ _ (rw o)
+
+  -- an open for input
+  pub does-open : (s : ℕ) → Opens g d t c text s → cio g d t c text b .effect ≡ done g d t d (withState t (c .channel) (Reading s 0 0 (count d s)))
+  unfolding command onClosed fileCommand openCall openRead allOpen
+  does-open s h =
+      does-effect (h .ready .on)
+      ∙ check-no {A = Effect} _ _ _ (h .ready .shut)
+      ∙ check-no {A = Effect} _ _ _ (all-fails (openAt t) 8 (c .channel) (h .ready .on .small) (h .ready .shut))
+      ∙ check-yes {A = Effect} (eqb (c .direction) 4) _ _ (rw (h .direction))
+      ∙ named-is {A = Effect} _ _ _ (h .told .read)
+      ∙ found-at {A = Effect} _ _ _ (h .at)
+      ∙ check-no {A = Effect} _ _ _ (h .quiet)

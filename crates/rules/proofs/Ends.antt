@@ -1,0 +1,458 @@
+-- Every call ends in a refusal or in one of the acts. The rows of every command are gone down here, once.
+use mathlib.Core.Bool.{Bool, true, false, not, _&&_, true≢false}
+use mathlib.Core.Logic.{_≢_}
+use mathlib.Core.List.{List, [], _∷_}
+use mathlib.Core.Path.{_≡_, refl, sym, ap, subst, _∙_}
+use Prim.Native.Nat.{ℕ, _+_}
+use native.Mathlib.Omega.{arith}
+use lib.Dec.{leb, eqb}
+use lib.ListN.{length}
+use borrow.Author.Tests.{eqb-true, eqb-false, leb-false, lt-leb, not-true, not-false}
+use Rattle.layout.specs.declared.State.{State}
+use Rattle.layout.specs.declared.State.the-variants.{Closed, Reading, Writing}
+use Rattle.layout.specs.declared.Table.{Table}
+use Rattle.layout.specs.declared.Name.{Name}
+use Rattle.layout.specs.declared.Name.the-variants.{Is, Refused}
+use Rattle.layout.specs.declared.Found.{Found}
+use Rattle.layout.specs.declared.Found.the-variants.{At, Nothing}
+use Rattle.rules.specs.declared.Block.{Block}
+use Rattle.rules.specs.declared.Transfer.{Transfer}
+use Rattle.rules.specs.declared.Transfer.the-variants.{Get, Put}
+use Rattle.rules.specs.declared.FileCommand.{FileCommand}
+use Rattle.rules.specs.declared.FileCommand.the-variants.{Open, Status, Rename, Delete, Lock, Unlock, Format}
+use Rattle.rules.specs.declared.Command.{Command}
+use Rattle.rules.specs.declared.Command.the-variants.{Moves, Close, Files, Unlisted}
+use Rattle.rules.specs.declared.Target.{Target}
+use Rattle.rules.specs.declared.Target.the-variants.{Slot, Missing, Denied}
+use Rattle.layout.specs.Basics.{if, check, member}
+use Rattle.layout.specs.Image.{Disk, Geometry}
+use Rattle.layout.specs.Volume.{good, lowest}
+use Rattle.layout.specs.Directory.{found, find, is43}
+use Rattle.layout.specs.Channels.{stateOf, withState}
+use Rattle.layout.specs.Names.{wellFormed, nameAt, readAs, body, ending, comma, wholeEnd, named, readName, oldName, newName, readDevice}
+use Rattle.layout.specs.Status.{success, badChannel, badCommand, channelOpen, writeOnly, channelClosed, readOnly, noChannel, notServed, badDevice, badUnit, badName, badTable, notFound, badChain}
+use Rattle.layout.proofs.Check.{check-yes, check-no, by-check, by-name, by-found}
+use Rattle.layout.proofs.Channels.{with-id}
+use Rattle.layout.proofs.Logic.{and-left, and-right}
+use Rattle.layout.proofs.Members.{member-head}
+use Rattle.rules.specs.Get.{readable, gets, GetOutcome, getOn}
+use Rattle.rules.specs.Put.{writable, puts, PutOutcome, putOn}
+use Rattle.rules.specs.Commands.{Effect, refused, done, putAt, target, both, aimed, openRead, openFound, openNew, openTarget, openWrite, openCall, closeState, closeCall, statusCall, renameAt, renameCall, deleteAt, deleteCall, flagAt, lockCall, unlockCall, formatCall, fileCommand, onClosed}
+use Rattle.rules.specs.Cio.{Outcome, outcome, getAt, commandOf, Asks, transfer, command, cio}
+use Rattle.rules.specs.Recovery.{Recovered, recovered, recover}
+use Rattle.rules.specs.Demand1.{readAnswers, writeAnswers, openAnswers, statusAnswers, formatAnswers, commandAnswers, answers, recoveryAnswers}
+use Rattle.rules.specs.Lists.{Call, cioOf, recoveryOf, System, recovering, outcomeOf}
+use Rattle.rules.proofs.Acts.{plainly, Kind, asks, recovers, kindOf, On, Told, bytes, GetEnds, get-closed, get-writing, get-broken, get-none, get-some, PutEnds, put-closed, put-reading, put-no-table, put-broken, put-none, put-some, Why, plain, no-table, no-chain, no-read, no-write, Ready, Aimed, Closes, Ends, refuses, reads, reads-none, writes, writes-none, frees, closes, drops, opens, rewrites, makes, tells, renames, deletes, locks, unlocks, formats, restores}
+
+-- a refusal is not 1
+pub why-not-one : {g : Geometry} {d : Disk} {t : Table} {k : Kind} {n : ℕ} → Why g d t k n → n ≢ success
+why-not-one (plain n p) e = true≢false (sym p ∙ ap plainly e)
+why-not-one (no-table h) e = omega arith
+why-not-one (no-chain w s f h) e = omega arith
+why-not-one (no-read i s k o l z q h) e = omega arith
+why-not-one (no-write i s p z q h) e = omega arith
+
+-- a name's refusal is 130, 160 or 165: what holds of these holds of it
+module _ (Q : ℕ → Type 0) (p : Q badDevice) (q : Q badUnit) (r : Q badName) where
+  is-refused : (k n : ℕ) → Q k → Refused k ≡ Refused n → Q n
+  is-refused k n h e = let v : k ≡ n = cc in rw (← v) h
+
+  pub by-name-at : (ends : ℕ → Bool) (text : List ℕ) (i n : ℕ) → nameAt ends text i ≡ Refused n → Q n
+  unfolding nameAt
+  by-name-at ends text i n = go (wellFormed ends text i) _ _
+    where
+      go : (b : Bool) (x y : ℕ) → if b (Is x y) (Refused badName) ≡ Refused n → Q n
+      go true x y e = absurd (let v : _≡_ {A = ℕ} 0 1 = cc in omega arith)
+      go false x y e = is-refused badName n r e
+
+  pub by-read : (ends : ℕ → Bool) (text : List ℕ) (n : ℕ) → readAs ends text ≡ Refused n → Q n
+  unfolding readAs
+  by-read ends text n = by-check P _ _ _ (λ _. is-refused badDevice n p) λ _. by-check P _ _ _ (λ _. is-refused badUnit n q) λ _. by-name-at ends text (body text) n
+    where
+      P : Name → Type 0
+      P m = m ≡ Refused n → Q n
+
+  pub by-device : Q success → (text : List ℕ) → Q (readDevice text)
+  unfolding readDevice
+  by-device s text = by-check Q _ _ _ (λ _. p) λ _. by-check Q _ _ _ (λ _. q) λ _. by-check Q _ _ _ (λ _. r) λ _. s
+
+-- two names: the refusal is that of either; where there is none the first was read
+both-refused : (Q : ℕ → Type 0) (a b : Name) → ((n : ℕ) → a ≡ Refused n → Q n) → ((n : ℕ) → b ≡ Refused n → Q n) → (n : ℕ) → both a b ≡ Refused n → Q n
+unfolding both
+both-refused Q (Refused k) b p q n e = p n e
+both-refused Q (Is x y) (Refused k) p q n e = q n e
+both-refused Q (Is x y) (Is v w) p q n e = p n e
+
+both-first : (a b : Name) (x y : ℕ) → both a b ≡ Is x y → a ≡ Is x y
+unfolding both
+both-first (Refused k) b x y e = e
+both-first (Is v w) (Refused k) x y e = absurd (let q : _≡_ {A = ℕ} 0 1 = cc in omega arith)
+both-first (Is v w) (Is v' w') x y e = e
+
+-- a get and a put on one channel
+module _ (g : Geometry) (d : Disk) where
+  pub get-ends : (st : State) (b : List ℕ) → GetEnds g d b st (getOn g d st b)
+  unfolding getOn
+  get-ends Closed b = get-closed
+  get-ends (Writing s p) b = get-writing s p
+  get-ends (Reading s k o l) b =
+      by-check (GetEnds g d b (Reading s k o l)) _ _ _ (λ n. get-none s k o l (eqb-true (length b) 0 n)) λ n.
+      by-check (GetEnds g d b (Reading s k o l)) _ _ _ (λ r. get-broken s k o l (not-true (readable g d s k o) r)) λ r.
+      get-some s k o l (eqb-false (length b) 0 n) (not-false (readable g d s k o) r)
+
+  pub put-ends : (st : State) (b : List ℕ) → PutEnds g d b st (putOn g d st b)
+  unfolding putOn
+  put-ends Closed b = put-closed
+  put-ends (Reading s k o l) b = put-reading s k o l
+  put-ends (Writing s p) b =
+      by-check (PutEnds g d b (Writing s p)) _ _ _ (λ n. put-none s p (eqb-true (length b) 0 n)) λ n.
+      by-check (PutEnds g d b (Writing s p)) _ _ _ (λ v. put-no-table s p (not-true (good (d 360)) v)) λ v.
+      by-check (PutEnds g d b (Writing s p)) _ _ _ (λ w. put-broken s p (not-true (writable g d s p) w)) λ w.
+      put-some s p (eqb-false (length b) 0 n) (not-false (good (d 360)) v) (not-false (writable g d s p) w)
+
+-- a table of checks whose refusals have their numbers among l: what P says holds of each of them
+record Rows {A : Type 0} (g : Geometry) (d : Disk) (t : Table) (k : Kind) (P : A → Type 0) (refusal : ℕ → A) (l : List ℕ) : Type 0 where
+  refusing : (n : ℕ) → Why g d t k n → member n l ≡ true → P (refusal n)
+
+-- a number that tells nothing of the table or of a chain, among l
+abbrev Plain : List ℕ → ℕ → Type 0
+Plain l n = (plainly n && member n l) ≡ true
+
+-- 130, 160 and 165 are among l
+abbrev Names : List ℕ → Type 0
+Names l = (member badDevice l && (member badUnit l && member badName l)) ≡ true
+
+-- the kinds of rows
+module _ {A : Type 0} {g : Geometry} {d : Disk} {t : Table} {k : Kind} {P : A → Type 0} {refusal : ℕ → A} {l : List ℕ} (w : Rows g d t k P refusal l) where
+  refuse-plain : (n : ℕ) → Plain l n → P (refusal n)
+  refuse-plain n p = w .refusing n (plain n (and-left (plainly n) (member n l) p)) (and-right (plainly n) (member n l) p)
+
+  row : {test : Bool} (n : ℕ) (rest : Unit {0} → A) → Plain l n → (test ≡ false → P (rest tt)) → P (check test (refusal n) rest)
+  row {test = test} n rest p q = by-check P test _ rest (λ _. refuse-plain n p) q
+
+  -- a test that must hold, and that tells why where it does not
+  row-why : {test : Bool} {n : ℕ} (rest : Unit {0} → A) → (test ≡ false → Why g d t k n) → member n l ≡ true → (test ≡ true → P (rest tt)) → P (check (not test) (refusal n) rest)
+  row-why {test = test} {n = n} rest y m q = by-check P (not test) _ rest (λ e. w .refusing n (y (not-true test e)) m) λ e. q (not-false test e)
+
+  name-row : {x : Name} (rest : (ℕ → ℕ) → A) → ((n : ℕ) → x ≡ Refused n → Plain l n) → ((r : Told x) → P (rest (bytes r))) → P (named x refusal rest)
+  name-row {x = x} rest p q = by-name P x refusal rest (λ n e. refuse-plain n (p n e)) λ a e r. q (record { word = a; extension = e; read = r })
+
+  found-row : {f : Found} (n : ℕ) (rest : ℕ → A) → Plain l n → ((s : ℕ) → f ≡ At s → P (rest s)) → P (found f (refusal n) rest)
+  found-row {f = f} n rest p q = by-found P f _ rest (λ _. refuse-plain n p) q
+
+  -- a name that could not be read
+  module _ (m : Names l) where
+    abbrev device-in : member badDevice l ≡ true
+    device-in = and-left (member badDevice l) (member badUnit l && member badName l) m
+
+    abbrev unit-in : member badUnit l ≡ true
+    unit-in = and-left (member badUnit l) (member badName l) (and-right (member badDevice l) (member badUnit l && member badName l) m)
+
+    abbrev name-in : member badName l ≡ true
+    name-in = and-right (member badUnit l) (member badName l) (and-right (member badDevice l) (member badUnit l && member badName l) m)
+
+    read-plain : (ends : ℕ → Bool) (text : List ℕ) (n : ℕ) → readAs ends text ≡ Refused n → Plain l n
+    read-plain ends text n = by-read (Plain l) device-in unit-in name-in ends text n
+
+    at-plain : (ends : ℕ → Bool) (text : List ℕ) (i n : ℕ) → nameAt ends text i ≡ Refused n → Plain l n
+    at-plain ends text i n = by-name-at (Plain l) device-in unit-in name-in ends text i n
+
+-- the file that a command is to change
+module _ {g : Geometry} {d : Disk} {t : Table} {k : Kind} where
+  target-row : {l : List ℕ} {P : Target → Type 0} → Rows g d t k P Denied l → (x : Name) → ((n : ℕ) → x ≡ Refused n → Plain l n) → member badTable l ≡ true
+      → ((r : Told x) → good (d 360) ≡ true → find d (bytes r) ≡ Nothing → P (Missing (r .word) (r .extension))) → ((s : ℕ) → Aimed g d t x s → P (Slot s)) → P (target d x)
+  unfolding target
+  target-row w (Refused n) p m q r = refuse-plain w n (p n refl)
+  target-row {P = P} w (Is a e) p m q r =
+      let told : Told (Is a e) = record { word = a; extension = e; read = refl } in
+      row-why w _ no-table m λ v.
+      by-found P _ _ _ (q told v) λ s f.
+      r s (record { told = told; table = v; at = f })
+
+  -- and is to be there
+  aimed-row : {l : List ℕ} {P : Effect → Type 0} → Rows g d t k P (λ n. refused n d t) l → (x : Name) (act : ℕ → Effect) → ((n : ℕ) → x ≡ Refused n → Plain l n) → (member badTable l && member notFound l) ≡ true
+      → ((s : ℕ) → Aimed g d t x s → P (act s)) → P (aimed g d t (target d x) act)
+  unfolding aimed
+  aimed-row {l = l} {P = P} w x act p m r =
+      let v : Rows g d t k (λ a. P (aimed g d t a act)) Denied l = record { refusing = w .refusing } in
+      target-row v x p (and-left (member badTable l) (member notFound l) m) (λ _ _ _. refuse-plain w _ (and-right (member badTable l) (member notFound l) m)) r
+
+  -- 13 status, whatever is to be shown of its effect
+  status-row : {P : Effect → Type 0} → Rows g d t k P (λ n. refused n d t) statusAnswers → (text : List ℕ) → P (done g d t d t) → P (statusCall g d t text)
+  unfolding statusCall readName member
+  status-row w text p =
+      name-row w _ (read-plain w refl ending text) λ _.
+      found-row w _ _ refl λ _ _.
+      row w _ _ refl λ _.
+      p
+
+-- a status leaves the disk
+pub status-disk : (g : Geometry) (d : Disk) (t : Table) (text : List ℕ) → statusCall g d t text .disk ≡ d
+status-disk g d t text = status-row {k = asks (Files Status)} {P = λ e. e .disk ≡ d} (record { refusing = λ _ _ _. refl }) text refl
+
+-- the answers of a command on a channel below 8
+pub answers-are : (c : Block) (k : Command) → On c k → answers c ≡ commandAnswers (c .direction) k
+unfolding answers
+answers-are c k o = check-no (leb 8 (c .channel)) _ _ (lt-leb 8 (c .channel) (o .small)) ∙ ap (commandAnswers (c .direction)) (o .command)
+
+-- on any other it answers 134
+answers-134 : (c : Block) → leb 8 (c .channel) ≡ true → member badChannel (answers c) ≡ true
+unfolding answers
+answers-134 c e = ap (member badChannel) (check-yes (leb 8 (c .channel)) _ _ e) ∙ member-head badChannel []
+
+-- the answers of an open, by its direction
+open-4 : (i : ℕ) → eqb i 4 ≡ true → openAnswers i ≡ readAnswers
+unfolding openAnswers
+open-4 i e = check-yes (eqb i 4) _ _ e
+
+open-8 : (i : ℕ) → eqb i 4 ≡ false → eqb i 8 ≡ true → openAnswers i ≡ writeAnswers
+unfolding openAnswers
+open-8 i e f = check-no (eqb i 4) _ _ e ∙ check-yes (eqb i 8) _ _ f
+
+open-else : (i : ℕ) → eqb i 4 ≡ false → eqb i 8 ≡ false → openAnswers i ≡ channelOpen ∷ noChannel ∷ notServed ∷ []
+unfolding openAnswers
+open-else i e f = check-no (eqb i 4) _ _ e ∙ check-no (eqb i 8) _ _ f
+
+-- 129 and 161 are among them whatever the direction
+open-any : (i n : ℕ) → member n readAnswers ≡ true → member n writeAnswers ≡ true → member n (channelOpen ∷ noChannel ∷ notServed ∷ []) ≡ true → member n (openAnswers i) ≡ true
+unfolding openAnswers
+open-any i n p q r = by-check P _ _ _ (λ _. p) λ _. by-check P _ _ _ (λ _. q) λ _. r
+  where
+    P : List ℕ → Type 0
+    P l = member n l ≡ true
+
+-- 129 is among the answers of every command that needs a closed channel
+closed-any : (i : ℕ) (k : FileCommand) → member channelOpen (commandAnswers i (Files k)) ≡ true
+unfolding commandAnswers member
+closed-any i Open = open-any i channelOpen refl refl refl
+closed-any i Status = refl
+closed-any i Rename = refl
+closed-any i Delete = refl
+closed-any i Lock = refl
+closed-any i Unlock = refl
+closed-any i Format = refl
+
+-- a command that is not listed is refused with 132 or 168: what holds of the listed ones and of these two holds of the command of any number
+pub by-command : (P : Command → Type 0) (n : ℕ) → ((k : Transfer) → P (Moves k)) → P Close → ((k : FileCommand) → P (Files k)) → P (Unlisted badCommand) → P (Unlisted notServed) → P (commandOf n)
+unfolding commandOf
+by-command P n m c f low other =
+    by-check P _ _ _ (λ _. f Open) λ _.
+    by-check P _ _ _ (λ _. m Get) λ _.
+    by-check P _ _ _ (λ _. m Put) λ _.
+    by-check P _ _ _ (λ _. c) λ _.
+    by-check P _ _ _ (λ _. f Status) λ _.
+    by-check P _ _ _ (λ _. f Rename) λ _.
+    by-check P _ _ _ (λ _. f Delete) λ _.
+    by-check P _ _ _ (λ _. f Lock) λ _.
+    by-check P _ _ _ (λ _. f Unlock) λ _.
+    by-check P _ _ _ (λ _. f Format) λ _.
+    by-check P _ _ _ (λ _. low) λ _.
+    other
+
+-- the refusal of a command that is not listed tells nothing
+abbrev plainlyUnlisted : Command → Bool
+plainlyUnlisted (Moves k) = true
+plainlyUnlisted Close = true
+plainlyUnlisted (Files k) = true
+plainlyUnlisted (Unlisted n) = plainly n
+
+unlisted-plain : (n : ℕ) → plainlyUnlisted (commandOf n) ≡ true
+unlisted-plain n = by-command (λ k. plainlyUnlisted k ≡ true) n (λ _. refl) refl (λ _. refl) refl refl
+
+-- a get and a put on one channel, with the table that they leave
+abbrev pub getLeaves : Disk → Table → ℕ → GetOutcome → Outcome
+getLeaves d t i r = outcome (record { status = r .answer .status; count = r .answer .count; disk = d; table = withState t i (r .answer .state); given = []; took = Nothing }) (r .buffer)
+
+abbrev pub putLeaves : Table → ℕ → PutOutcome → Effect
+putLeaves t i r = record { status = r .answer .status; count = r .answer .count; disk = r .disk; table = withState t i (r .answer .state); given = r .given; took = Nothing }
+
+-- each command
+module _ (g : Geometry) (d : Disk) (t : Table) (c : Block) (text b : List ℕ) where
+  -- what it ends in, where it leaves the buffer
+  abbrev A : Command → Effect → Type 0
+  A k e = Ends g d t (asks k) (cioOf c text b) (outcome e b)
+
+  -- its table of checks
+  abbrev T : Command → List ℕ → Type 0
+  T k l = Rows g d t (asks k) (A k) (λ n. refused n d t) l
+
+  rows : {k : Command} {l : List ℕ} → On c k → commandAnswers (c .direction) k ≡ l → T k l
+  rows {k = k} o e = record { refusing = λ n y m. refuses n y (subst (λ x. member n x ≡ true) (sym (answers-are c k o ∙ e)) m) }
+
+  -- 3 open
+  open-read-ends : T (Files Open) readAnswers → Ready g d t c (Files Open) → c .direction ≡ 4 → A (Files Open) (openRead g d t (c .channel) text)
+  unfolding openRead readName member
+  open-read-ends w r e =
+      name-row w _ (read-plain w refl ending text) λ n.
+      found-row w _ _ refl λ s f.
+      row w _ _ refl λ q.
+      opens s (record { ready = r; direction = e; told = n; at = f; quiet = q })
+
+  open-write-ends : T (Files Open) writeAnswers → Ready g d t c (Files Open) → c .direction ≡ 8 → A (Files Open) (openWrite g d t (c .channel) text)
+  unfolding openWrite openTarget openFound openNew readName member
+  open-write-ends w r e =
+      let v : Rows g d t (asks (Files Open)) (λ a. A (Files Open) (openTarget g d t (c .channel) a)) Denied writeAnswers = record { refusing = w .refusing } in
+      target-row v _ (read-plain w refl ending text) refl
+      (λ n y f.
+      found-row w _ _ refl λ s z.
+      row w _ _ refl λ m.
+      makes s (record { ready = r; direction = e; told = n; table = y; missing = f; vacant = z; room = eqb-false (lowest (d 360)) 0 m }))
+      λ s a.
+      row w _ _ refl λ u.
+      row w _ _ refl λ h.
+      row-why w _ (no-chain _ s (a .at)) refl λ k.
+      rewrites s (record { ready = r; direction = e; aim = a; unlocked = u; unheld = h; clear = k })
+
+  open-ends : Ready g d t c (Files Open) → A (Files Open) (openCall g d t (c .channel) (c .direction) text)
+  unfolding openCall commandAnswers member
+  open-ends r =
+      let i = c .direction in
+      row (rows (r .on) refl) _ _ (open-any i noChannel refl refl refl) λ _.
+      by-check (A (Files Open)) _ _ _ (λ e. open-read-ends (rows (r .on) (open-4 i e)) r (eqb-true i 4 e)) λ e.
+      by-check (A (Files Open)) _ _ _ (λ f. open-write-ends (rows (r .on) (open-8 i e f)) r (eqb-true i 8 f)) λ f.
+      refuse-plain (rows (r .on) (open-else i e f)) _ refl
+
+  -- 13 status
+  status-ends : Ready g d t c (Files Status) → A (Files Status) (statusCall g d t text)
+  unfolding commandAnswers
+  status-ends r = status-row (rows (r .on) refl) text (tells r)
+
+  -- 32 rename
+  rename-ends : Ready g d t c (Files Rename) → A (Files Rename) (renameCall g d t text)
+  unfolding renameCall renameAt oldName newName commandAnswers member
+  rename-ends r =
+      let w = rows (r .on) refl in
+      let new = at-plain w refl ending text (wholeEnd text (body text) + 1) in
+      aimed-row w _ _ (both-refused _ _ _ (read-plain w refl comma text) new) refl λ s a.
+      name-row w _ new λ n.
+      row w _ _ refl λ u.
+      row w _ _ refl λ h.
+      row w _ _ refl λ k.
+      let old : Told (oldName text) = record { word = a .told .word; extension = a .told .extension; read = both-first (oldName text) (newName text) _ _ (a .told .read) } in
+      renames s (record { ready = r; aim = record { told = old; table = a .table; at = a .at }; told = n; unlocked = u; unheld = h; alone = k })
+
+  -- 33 delete
+  delete-ends : Ready g d t c (Files Delete) → A (Files Delete) (deleteCall g d t text)
+  unfolding deleteCall deleteAt readName commandAnswers member
+  delete-ends r =
+      let w = rows (r .on) refl in
+      aimed-row w _ _ (read-plain w refl ending text) refl λ s a.
+      row w _ _ refl λ u.
+      row w _ _ refl λ h.
+      row-why w _ (no-chain _ s (a .at)) refl λ k.
+      deletes s (record { ready = r; aim = a; unlocked = u; unheld = h; clear = k })
+
+  -- 35 lock, 36 unlock
+  lock-ends : Ready g d t c (Files Lock) → A (Files Lock) (lockCall g d t text)
+  unfolding lockCall flagAt readName commandAnswers member
+  lock-ends r =
+      let w = rows (r .on) refl in
+      aimed-row w _ _ (read-plain w refl ending text) refl λ s a.
+      row w _ _ refl λ h.
+      locks s (record { ready = r; aim = a; unheld = h })
+
+  unlock-ends : Ready g d t c (Files Unlock) → A (Files Unlock) (unlockCall g d t text)
+  unfolding unlockCall flagAt readName commandAnswers member
+  unlock-ends r =
+      let w = rows (r .on) refl in
+      aimed-row w _ _ (read-plain w refl ending text) refl λ s a.
+      row w _ _ refl λ h.
+      unlocks s (record { ready = r; aim = a; unheld = h })
+
+  -- 254 format
+  format-ends : Ready g d t c (Files Format) → A (Files Format) (formatCall g d t text)
+  unfolding formatCall commandAnswers member
+  format-ends r =
+      let w = rows (r .on) refl in
+      let why : readDevice text ≢ success → plainly (readDevice text) ≡ true = by-device (λ n. n ≢ success → plainly n ≡ true) (λ _. refl) (λ _. refl) (λ _. refl) (λ h. absurd (h refl)) text in
+      row-why w _ (λ e. plain _ (why (eqb-false (readDevice text) success e))) (by-device (λ n. member n formatAnswers ≡ true) refl refl refl refl text) λ _.
+      row w _ _ refl λ n.
+      formats (record { ready = r; none = n })
+
+  -- the commands that need a closed channel
+  file-ends : (k : FileCommand) → Ready g d t c (Files k) → A (Files k) (fileCommand g d t c text k)
+  unfolding fileCommand
+  file-ends Open = open-ends
+  file-ends Status = status-ends
+  file-ends Rename = rename-ends
+  file-ends Delete = delete-ends
+  file-ends Lock = lock-ends
+  file-ends Unlock = unlock-ends
+  file-ends Format = format-ends
+
+  closed-ends : (k : FileCommand) → On c (Files k) → A (Files k) (onClosed g d t c text k)
+  unfolding onClosed
+  closed-ends k o =
+      row (rows o refl) _ _ (closed-any (c .direction) k) λ h.
+      file-ends k (record { on = o; shut = h })
+
+  -- 12 close
+  close-ends : On c Close → A Close (closeCall g d t (c .channel))
+  unfolding closeCall closeState
+  close-ends o = go (stateOf t (c .channel)) refl
+    where
+      go : (st : State) → stateOf t (c .channel) ≡ st → A Close (closeState g d t (c .channel) st)
+      go Closed e = frees o (λ s p q. let y : _≡_ {A = ℕ} 0 1 = cc in absurd (omega arith))
+      go (Reading s k o' l) e = frees o (λ s' p q. let y : _≡_ {A = ℕ} 0 1 = cc in absurd (omega arith))
+      go (Writing s p) e =
+          let h : Closes g d t c s p = record { on = o; state = e } in
+          by-check (A Close) _ _ _ (λ q. drops s p h (not-true (is43 d s) q)) λ q.
+          closes s p h (not-false (is43 d s) q)
+
+  -- 7 get and 11 put, by what the channel's record ends in
+  got : On c (Moves Get) → {st : State} → stateOf t (c .channel) ≡ st → {r : GetOutcome} → GetEnds g d b st r → Ends g d t (asks (Moves Get)) (cioOf c text b) (getLeaves d t (c .channel) r)
+  unfolding gets commandAnswers member
+  got o e get-closed = rw (with-id t (c .channel) Closed e) (refuse-plain (rows o refl) channelClosed refl)
+  got o e (get-writing s p) = rw (with-id t (c .channel) (Writing s p) e) (refuse-plain (rows o refl) writeOnly refl)
+  got o e (get-broken s k i l q) = rw (with-id t (c .channel) (Reading s k i l) e) (rows o refl .refusing badChain (no-read (c .channel) s k i l (o .small) e q) refl)
+  got o e (get-none s k i l n) = rw (with-id t (c .channel) (Reading s k i l) e) (reads-none o n)
+  got o e (get-some s k i l n p) = reads s k i l (record { on = o; state = e; wanted = n; passes = p })
+
+  put : On c (Moves Put) → {st : State} → stateOf t (c .channel) ≡ st → {r : PutOutcome} → PutEnds g d b st r → A (Moves Put) (putLeaves t (c .channel) r)
+  unfolding puts commandAnswers member
+  put o e put-closed = rw (with-id t (c .channel) Closed e) (refuse-plain (rows o refl) channelClosed refl)
+  put o e (put-reading s k i l) = rw (with-id t (c .channel) (Reading s k i l) e) (refuse-plain (rows o refl) readOnly refl)
+  put o e (put-no-table s p v) = rw (with-id t (c .channel) (Writing s p) e) (rows o refl .refusing badTable (no-table v) refl)
+  put o e (put-broken s p w) = rw (with-id t (c .channel) (Writing s p) e) (rows o refl .refusing badChain (no-write (c .channel) s p (o .small) e w) refl)
+  put o e (put-none s p n) = rw (with-id t (c .channel) (Writing s p) e) (writes-none o n)
+  put o e (put-some s p n v w) = writes s p (record { on = o; state = e; waiting = n; table = v; passes = w })
+
+  -- every command on a channel below 8
+  pub command-ends : (k : Command) → On c k → Ends g d t (asks k) (cioOf c text b) (command g d t k c text b)
+  unfolding command transfer getAt putAt commandAnswers
+  command-ends (Moves Get) o = got o refl (get-ends g d (stateOf t (c .channel)) b)
+  command-ends (Moves Put) o = put o refl (put-ends g d (stateOf t (c .channel)) b)
+  command-ends Close o = close-ends o
+  command-ends (Files k) o = closed-ends k o
+  command-ends (Unlisted n) o = rows o refl .refusing n (plain n (subst (λ k. plainlyUnlisted k ≡ true) (o .command) (unlisted-plain (c .command)))) (member-head n [])
+
+  cio-ends : Ends g d t (asks (commandOf (c .command))) (cioOf c text b) (cio g d t c text b)
+  unfolding cio
+  cio-ends = by-check (Ends g d t (asks (commandOf (c .command))) (cioOf c text b)) _ _ _
+      (λ q. refuses badChannel (plain badChannel refl) (answers-134 c q))
+      λ q. command-ends (commandOf (c .command)) (record { small = leb-false 8 (c .channel) q; command = refl })
+
+-- a recovery
+recover-ends : (g : Geometry) (d : Disk) (t : Table) (s : ℕ) → Ends g d t recovers (recoveryOf s) (outcome (recovering (recover g d s) t) [])
+unfolding recover member
+recover-ends g d t s =
+    let w : Rows g d t recovers R (λ n. recovered n 0 d) recoveryAnswers = record { refusing = refuses } in
+    row-why w _ (λ _. plain _ refl) refl λ h.
+    row-why w _ no-table refl λ v.
+    row-why w _ (λ _. plain _ refl) refl λ l.
+    row w _ _ refl λ k.
+    row-why w _ (λ _. plain _ refl) refl λ c.
+    restores s (record { passes = h; table = v; legals = l; alone = k; clear = c })
+  where
+    R : Recovered → Type 0
+    R r = Ends g d t recovers (recoveryOf s) (outcome (recovering r t) [])
+
+-- every call ends in a refusal or in one of the acts
+pub ends : (g : Geometry) (c : Call) (x : System) → Ends g (x .disk) (x .table) (kindOf c) c (outcomeOf g c x)
+unfolding outcomeOf
+ends g (cioOf c text b) x = cio-ends g (x .disk) (x .table) c text b
+ends g (recoveryOf s) x = recover-ends g (x .disk) (x .table) s
+
+-- a CIO call whose command is known ends in an act of that command
+pub ends-as : (g : Geometry) (d : Disk) (t : Table) (c : Block) (text b : List ℕ) (k : Command) → Asks c k → Ends g d t (asks k) (cioOf c text b) (cio g d t c text b)
+ends-as g d t c text b k e = subst (λ x. Ends g d t (asks x) (cioOf c text b) (cio g d t c text b)) e (cio-ends g d t c text b)

@@ -1,0 +1,23 @@
+// What a call answers, put together.
+use super::Answer;
+use super::Reply;
+use layout::Table;
+ghost use mathlib.Core.Path.{_≡_};
+
+// Commands other than get and put report 0.
+pub fn answer(status: u8, t: Table) -> Answer
+    ensures { λ r. ⌜ r ≡ record { status = status; count = 0; table = t } ⌝ }
+{
+    Answer {
+        status,
+        count: 0,
+        table: t,
+    }
+}
+
+// Recovery and the sector calls leave the channels alone.
+pub fn reply(status: u8, count: usize) -> Reply
+    ensures { λ r. ⌜ r ≡ record { status = status; count = count } ⌝ }
+{
+    Reply { status, count }
+}

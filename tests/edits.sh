@@ -1,0 +1,101 @@
+#!/usr/bin/env bash
+# Tries the wrong changes under crates/*/must-fail/quick, written as rt's own must-fail edits are: the prover must refuse each.
+#   tests/edits.sh               every edit, after rt ci
+#   tests/edits.sh CRATE [NAME]  the edits of one crate, or one of them
+# For an edit in crates/*/must-fail rt ci proves the whole crate anew. Here a crate is checked once unedited, and then of each
+# edited copy only what the edit touches, over a copy of that check's incremental folder. Nothing is taken for proved from that:
+# it is rt ci that proves every crate, from nothing.
+# Leaves a log for each edit where rt leaves its own, for tests/facts.sh.
+# Ends with 'N passed, M failed', a crate checked unedited or an edit refused being one passed; exits non-zero where one failed.
+set -uo pipefail
+cd "$(dirname "$0")/.."
+source tests/common.sh
+root=$PWD
+work=$(mktemp -d)
+trap 'rm -rf "$work"' EXIT
+
+# The edits of crate $1, or the one named $2.
+edits_of() {
+    local edit
+    for edit in "crates/$1/must-fail/quick/"${2:-*}.edit; do
+        [ ! -f "$edit" ] || echo "$edit"
+    done
+}
+
+# Checks crate $1 unedited, so that its incremental folder is full; writes the verdict to $work/CRATE.unedited.res.
+unedited() {
+    if RT_JOBS=1 rt dev "$1" >"$work/$1.log" 2>&1; then
+        echo "proved: $1 unedited, for its edits"
+    else
+        echo "$1 NOT PROVED unedited: $(tail -n 1 "$work/$1.log" | cut -c1-1000)"
+    fi >"$work/$1.unedited.res"
+}
+
+# A repository in folder $1 that differs from this one only in crate $2, of which it has a copy, and in what rt writes.
+stand_in() {
+    mkdir -p "$1/crates" "$1/target/inc"
+    ln -s "$root"/crates/* "$1/crates/"
+    rm "$1/crates/$2"
+    mkdir "$1/crates/$2"
+    cp -R "$root/crates/$2"/{src,specs,proofs} "$1/crates/$2/" 2>/dev/null
+    cp "$root/crates.txt" "$1/"
+    cp -R "$root/target/stamp" "$1/target/"
+    ln -s "$root/target/rlib" "$1/target/rlib"
+    cp -R "$root/target/inc/$2" "$1/target/inc/"
+}
+
+# Makes the changes of edit $1 in crate folder $2.
+apply() {
+    local line file='' old=''
+    while IFS= read -r line; do
+        case $line in
+        'file: '*) file=${line#file: } ;;
+        'old: '*) old=${line#old: } ;;
+        'new:'*)
+            line=${line#new:}
+            replace "$2/$file" "$old" "${line# }" || return 1
+            ;;
+        esac
+    done <"$1"
+    [ -n "$old" ]
+}
+
+# Tries edit $2 of crate $1; writes its verdict to $work/CRATE.NAME.res and its log beside those of rt.
+try() {
+    local crate=$1 edit=$2 name place log first
+    name=$(basename "$edit" .edit)
+    place=$work/$crate.$name
+    log=$root/target/must-fail/$crate/$name/.log
+    mkdir -p "$(dirname "$log")"
+    stand_in "$place" "$crate"
+    if ! apply "$edit" "$place/crates/$crate"; then
+        echo "must-fail $crate/$name: BAD EDIT: an old text is not in its file exactly once" >"$place.res"
+    elif (cd "$place" && RT_JOBS=1 rt dev "$crate") >"$log" 2>&1; then
+        echo "must-fail $crate/$name: NOT REFUSED: the crate is still proved with this edit" >"$place.res"
+    elif ! grep -q '^logic=not-proved' "$log"; then
+        echo "must-fail $crate/$name: BAD EDIT: it did not reach the prover: $(tail -n 1 "$log" | cut -c1-1000)" >"$place.res"
+    else
+        first=$(grep -m 1 -oE '^(note: )?[^ ]+:[0-9]+:[0-9]+: (error|it is not proved)' "$log" | sed -E 's/^note: //; s/: (error|it is.*)$//')
+        echo "refused: must-fail $crate/$name, as it must be (first at ${first#"$place/crates/$crate/"})" >"$place.res"
+    fi
+    rm -rf "$place"
+}
+
+crates=${1:-$(sed -nE 's/^([A-Za-z0-9_]+):.*/\1/p' crates.txt)}
+tried=0
+for crate in $crates; do
+    [ -z "$(edits_of "$crate" "${2:-}")" ] || beside unedited "$crate"
+done
+wait
+for crate in $crates; do
+    for edit in $(edits_of "$crate" "${2:-}"); do
+        tried=$((tried + 1))
+        beside try "$crate" "$edit"
+    done
+done
+wait
+all=$((tried + $(ls "$work"/*.unedited.res | wc -l)))
+cat "$work"/*.res
+good=$(cat "$work"/*.res | grep -cE '^(refused|proved): ')
+echo "$good passed, $((all - good)) failed"
+[ "$good" -eq "$all" ] && [ "$tried" -gt 0 ]
