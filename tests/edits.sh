@@ -11,7 +11,8 @@ set -uo pipefail
 cd "$(dirname "$0")/.."
 source tests/common.sh
 root=$PWD
-work=$(mktemp -d)
+mkdir -p target
+work=$(mktemp -d "$root/target/edits.XXXXXX")
 trap 'rm -rf "$work"' EXIT
 
 # The edits of crate $1, or the one named $2.
@@ -31,7 +32,8 @@ unedited() {
     fi >"$work/$1.unedited.res"
 }
 
-# A repository in folder $1 that differs from this one only in crate $2, of which it has a copy, and in what rt writes.
+# A repository in folder $1 that differs from this one only in crate $2, of which it has a copy, and in what rt writes. The
+# incremental folder's files are linked: the prover replaces them and writes into none.
 stand_in() {
     mkdir -p "$1/crates" "$1/target/inc"
     ln -s "$root"/crates/* "$1/crates/"
@@ -41,7 +43,7 @@ stand_in() {
     cp "$root/crates.txt" "$1/"
     cp -R "$root/target/stamp" "$1/target/"
     ln -s "$root/target/rlib" "$1/target/rlib"
-    cp -R "$root/target/inc/$2" "$1/target/inc/"
+    cp -Rl "$root/target/inc/$2" "$1/target/inc/"
 }
 
 # Makes the changes of edit $1 in crate folder $2.

@@ -117,6 +117,11 @@ foundSlots Nothing = []
 abbrev pub TellsFound : ℕ → ℕ → Found → Found → Type 0
 TellsFound one none f r = (r ≡ f) × (foundStatus one none r ≡ foundStatus one none f) × (foundSlots r ≡ foundSlots f)
 
+-- the slot found is s
+abbrev pub isAt : Found → ℕ → Bool
+isAt (At x) s = eqb x s
+isAt Nothing s = false
+
 -- a slot found is one of the 64
 abbrev pub Below : Found → Type 0
 Below (At s) = s < 64

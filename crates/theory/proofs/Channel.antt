@@ -7,7 +7,6 @@ use Prim.Native.Nat.{ℕ, _≤_, _<_}
 use native.Mathlib.Decide.{decLt}
 use native.Mathlib.Omega.{arith}
 use lib.ListN.{length, List·getD-eq-default}
-use borrow.Author.Tests.{eqb-true}
 use Rattle.layout.specs.declared.State.{State}
 use Rattle.layout.specs.declared.State.the-variants.{Closed, Reading, Writing}
 use Rattle.layout.specs.declared.Found.the-variants.{At}
@@ -19,10 +18,10 @@ use Rattle.rules.specs.declared.FileCommand.the-variants.{Open, Rename, Delete,
 use Rattle.rules.specs.declared.Command.the-variants.{Moves, Close, Files}
 use Rattle.layout.specs.Image.{Disk, Geometry}
 use Rattle.layout.specs.Directory.{find}
-use Rattle.layout.specs.Channels.{channel, stateOf, withState, isOpen, openAt, anyOpen, holds, holdsAt, heldByChannel, held}
+use Rattle.layout.specs.Channels.{channel, stateOf, withState, openAt, anyOpen, holds, holdsAt, heldByChannel, held}
 use Rattle.layout.specs.Names.{readName, oldName}
 use Rattle.layout.specs.Status.{success}
-use Rattle.layout.proofs.Channels.{state-other}
+use Rattle.layout.proofs.Channels.{state-other, Holding, reads, writes, holding, holds-open}
 use Rattle.layout.proofs.Search.{any-at}
 use Rattle.rules.specs.Cio.{Outcome, Asks}
 use Rattle.rules.specs.Lists.{Call, cioOf, recoveryOf, System, perform, outcomeOf}
@@ -96,14 +95,9 @@ module _ (g : Geometry) (d : Disk) (t : Table) (a : Sound g d t) (i : ℕ) (z : 
   unfolding held heldByChannel holdsAt
   is-held = rw (any-at (holdsAt t x) 8 i z h)
 
-  holds-open : (st : State) → holds st x ≡ true → isOpen st ≡ true
-  holds-open Closed e = e
-  holds-open (Reading s k o l) e = refl
-  holds-open (Writing s p) e = refl
-
   is-open : openAt t i ≡ true
   unfolding openAt
-  is-open = holds-open (stateOf t i) h
+  is-open = holds-open (stateOf t i) x h
 
   some-open : anyOpen t ≡ true
   unfolding anyOpen
@@ -115,13 +109,12 @@ module _ (g : Geometry) (d : Disk) (t : Table) (a : Sound g d t) (i : ℕ) (z : 
 
   -- no other channel writes it
   put-held : (j p : ℕ) → stateOf t j ≡ Writing x p → j ≡ i
-  put-held j p e = go (decLt j 8) (stateOf t i) refl h
+  put-held j p e = go (decLt j 8) refl (holding (stateOf t i) x h)
     where
-      go : Dec (j < 8) → (st : State) → stateOf t i ≡ st → holds st x ≡ true → j ≡ i
-      go (no n) st r k = absurd (let q = past t j (a .eight) (omega arith) in let y : _≡_ {A = ℕ} 0 1 = cc in omega arith)
-      go (yes m) Closed r k = absurd (true≢false (sym k))
-      go (yes m) (Reading s q o l) r k = absurd (a .reading i s q o l z r .1 (rw (eqb-true s x k) (a .writing j x p m e .1)))
-      go (yes m) (Writing s q) r k = a .once j i x p q m z e (r ∙ ap (λ y. Writing y q) (eqb-true s x k))
+      go : Dec (j < 8) → {st : State} → stateOf t i ≡ st → Holding x st → j ≡ i
+      go (no n) r k = absurd (let q = past t j (a .eight) (omega arith) in let y : _≡_ {A = ℕ} 0 1 = cc in omega arith)
+      go (yes m) r (reads q o l) = absurd (a .reading i x q o l z r .1 (a .writing j x p m e .1))
+      go (yes m) r (writes q) = a .once j i x p q m z e r
 
   -- so no call that opens for output, deletes or renames it, or formats, answers 1
   module _ {c : Block} {text b : List ℕ} where
