@@ -16,7 +16,8 @@ use Rattle.volume.proofs.Below.{none-at}
 use Rattle.puts.specs.Run.{addRun, chained, settledFrom}
 use Rattle.puts.specs.Come.{Puts}
 use Rattle.puts.specs.Searched.{Searched}
-use Rattle.puts.proofs.Adding.{puts-start, puts-run, room-new, run-adds}
+use Rattle.rules.proofs.Rooms.{room-new}
+use Rattle.puts.proofs.Adding.{puts-start, puts-run, run-adds}
 use Rattle.puts.proofs.Searching.{give-empty, room-data, searched-give, searched-add}
 use Rattle.puts.proofs.Settling.{settled-none, settled-free, settled-next, chained-count}
 

@@ -1,15 +1,13 @@
 -- The bytes of a put, one after the other: where each goes, and what holds of the disk behind them all.
 use mathlib.Core.Bool.{true}
-use mathlib.Core.Logic.{_≢_}
 use mathlib.Core.List.{List, [], _∷_, _++_, append-assoc, append-nil}
-use mathlib.Core.Path.{_≡_, refl, sym, _∙_}
-use Prim.Native.Nat.{ℕ, suc, _+_, _≤_, _<_}
+use mathlib.Core.Path.{_≡_, refl, sym, ap, _∙_}
+use Prim.Native.Nat.{ℕ, suc, _+_, _<_}
 use native.Mathlib.Decide.{ℕ-discrete, decLt}
 use native.Mathlib.Omega.{arith}
 use lib.Dec.{eqb, eqb·suc-suc, eqb·zero-suc}
 use lib.ListN.{length, take}
 use lib.Seq.{append-snoc}
-use borrow.Author.Tests.{lt-ltb, le-ltb, eq-eqb, ne-eqb}
 use Rattle.layout.specs.Basics.{if}
 use Rattle.layout.specs.Image.{Disk, Geometry}
 use Rattle.layout.specs.Volume.{dataSector, free, lowest}
@@ -19,34 +17,10 @@ use Rattle.layout.proofs.Give.{give-table}
 use Rattle.layout.proofs.Data.{data-facts}
 use Rattle.layout.proofs.Good.{Good, lowest-free}
 use Rattle.layout.proofs.MapAll.{one-good}
-use Rattle.rules.specs.Put.{Adds, adds, Room, roomIn, roomFor, addByte, putFrom}
+use Rattle.rules.specs.Put.{Adds, roomIn, addByte, putFrom}
+use Rattle.rules.proofs.Rooms.{room-here, room-none, room-new, put-next, put-full}
 use Rattle.theory.proofs.Sectors.{add-other}
 use Rattle.theory.proofs.Give.{give-given}
-
--- where the next byte goes: into the last sector, into a new one, or nowhere
-module _ (g : Geometry) (d : Disk) (s p : ℕ) where
-  room-here : inUse g (d p) < g .room → roomFor g d s p ≡ roomIn p d []
-  unfolding roomFor
-  room-here u = rw (lt-ltb (inUse g (d p)) (g .room) u)
-
-  room-new : (q : ℕ) → g .room ≤ inUse g (d p) → lowest (d 360) ≡ q → q ≢ 0 → roomFor g d s p ≡ roomIn q (give g d s p q) (q ∷ [])
-  unfolding roomFor
-  room-new q u e n = rw (le-ltb (inUse g (d p)) (g .room) u, e, ne-eqb q 0 n)
-
-  room-none : g .room ≤ inUse g (d p) → lowest (d 360) ≡ 0 → roomFor g d s p ≡ roomIn 0 d []
-  unfolding roomFor
-  room-none u e = rw (le-ltb (inUse g (d p)) (g .room) u, e)
-
-  -- and the bytes behind it
-  module _ (x : ℕ) (xs : List ℕ) (n : ℕ) (r : Room) (e : roomFor g d s p ≡ r) where
-    put-next : r .sector ≢ 0 → let o = putFrom g xs (addByte g (r .disk) (r .sector) x) s (r .sector) (n + 1) in
-        putFrom g (x ∷ xs) d s p n ≡ record { added = o .added; disk = o .disk; given = r .given ++ o .given }
-    unfolding putFrom
-    put-next m = rw (e, ne-eqb (r .sector) 0 m, putFrom) (rw e)
-
-    put-none : r .sector ≡ 0 → putFrom g (x ∷ xs) d s p n ≡ adds diskFull n p d
-    unfolding putFrom
-    put-none m = rw (e, eq-eqb (r .sector) 0 m, putFrom)
 
 -- what a put of xs ends in, where n bytes are counted, b is put and the sectors l are given out before: as many bytes as fitted, counted; 162 where not all did.
 -- I is what holds of the bytes put so far, the sectors given out so far, the disk and the last sector
@@ -83,13 +57,13 @@ module _ (g : Geometry) (roomy : 0 < g .room) (s : ℕ) (z : s < 64) (I : List �
       go : Dec (inUse g (d p) < g .room) → Dec (lowest (d 360) ≡ 0) → More → Walks I b l (x ∷ xs) n (putFrom g (x ∷ xs) d s p n)
       go (yes u) v more =
           let k = data-facts p h .pos in
-          rw (put-next g d s p x xs n (roomIn p d []) (room-here g d s p u) (omega arith)) (next [] d p h w u (rw (append-nil l) i) more)
-      go (no u) (yes v) more = rw (put-none g d s p x xs n (roomIn 0 d []) (room-none g d s p (omega arith) v) refl)
+          rw (put-next g s x xs d p n (roomIn p d []) (room-here g s d p u) (omega arith)) (next [] d p h w u (rw (append-nil l) i) more)
+      go (no u) (yes v) more = rw (put-full g s x xs d p n (ap (λ r. r .sector) (room-none g s d p (lowest (d 360)) (omega arith) refl v)))
           (record { fitted = 0; count = omega arith; status = rw (eqb·zero-suc (length xs)); holds = rw (append-nil b, append-nil l) i })
       go (no u) (no v) more =
           let q = lowest (d 360) in
           let e = give g d s p q in
           let (f, hq) = lowest-free (d 360) w v in
           let table : Good (e 360) = rw (give-table g d s p q (data-facts p h .table) (data-facts q hq .table)) (one-good d q hq f w) in
-          rw (put-next g d s p x xs n (roomIn q e (q ∷ [])) (room-new g d s p q (omega arith) refl v) v)
+          rw (put-next g s x xs d p n (roomIn q e (q ∷ [])) (room-new g s d p q (omega arith) refl v) v)
           (next (q ∷ []) e q hq table (rw (give-given g d s q z hq p .empty) roomy) (new b l d p q h hq f i) more)

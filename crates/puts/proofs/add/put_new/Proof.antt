@@ -1,5 +1,6 @@
 use Rattle.puts.proofs.Searching.{give-empty, room-data}
-use Rattle.puts.proofs.Adding.{puts-start, puts-all, puts-full, puts-run, room-none, room-new}
+use Rattle.rules.proofs.Rooms.{room-none, room-new}
+use Rattle.puts.proofs.Adding.{puts-start, puts-all, puts-full, puts-run}
 use Rattle.puts.specs.Come.{Puts}
 use Rattle.layout.specs.Image.{geometryOf, view}
 use Rattle.layout.specs.File.{give}

@@ -1,6 +1,6 @@
 use Rattle.layout.specs.Image.{geometryOf, view}
 use Rattle.puts.proofs.Searching.{room-data, room-given, searched-give}
-use Rattle.puts.proofs.Adding.{room-here, room-none, room-new}
+use Rattle.rules.proofs.Rooms.{room-here, room-none, room-new}
 use Rattle.volume.proofs.Below.{none-less}
 use Rattle.layout.proofs.Data.{data-facts}
 use native.Mathlib.Omega.{arith}
