@@ -1,10 +1,9 @@
 #!/usr/bin/env bash
 # Tries the wrong changes under crates/*/must-fail/quick, written as rt's own must-fail edits are: the prover must refuse each.
 #   tests/edits.sh               every edit, after rt ci
-#   tests/edits.sh CRATE [NAME]  the edits of one crate, or one of them
-# For an edit in crates/*/must-fail rt ci proves the whole crate anew. Here a crate is checked once unedited, and then of each
-# edited copy only what the edit touches, over a copy of that check's incremental folder. Nothing is taken for proved from that:
-# it is rt ci that proves every crate, from nothing.
+#   tests/edits.sh CRATE [NAME]  the edits of one crate, or one of them; what has changed is proved first
+# For an edit in crates/*/must-fail rt ci proves the whole crate anew. Here only what the edit touches is checked, and first each
+# crate unedited: where it fails by itself, that an edit is refused means nothing.
 # Leaves a log for each edit where rt leaves its own, for tests/facts.sh.
 # Ends with 'N passed, M failed', a crate checked unedited or an edit refused being one passed; exits non-zero where one failed.
 set -uo pipefail
@@ -14,6 +13,8 @@ root=$PWD
 mkdir -p target
 work=$(mktemp -d "$root/target/edits.XXXXXX")
 trap 'rm -rf "$work"' EXIT
+checked=$(checked_name "$work/empty")
+[ $# -eq 0 ] || up_to_date "$1" || exit 1
 
 # The edits of crate $1, or the one named $2.
 edits_of() {
@@ -23,43 +24,16 @@ edits_of() {
     done
 }
 
-# Checks crate $1 unedited, so that its incremental folder is full; writes the verdict to $work/CRATE.unedited.res.
+# Checks crate $1 unedited; writes the verdict to $work/CRATE.unedited.res.
 unedited() {
-    if RT_JOBS=1 rt dev "$1" >"$work/$1.log" 2>&1; then
-        echo "proved: $1 unedited, for its edits"
+    local place=$work/$1.unedited
+    stand_in "$place" "$1" "$1"
+    if check_in "$place" "$1" >"$place.log" 2>&1; then
+        echo "proved: $1 unedited, for its edits" >"$place.res"
     else
-        echo "$1 NOT PROVED unedited: $(tail -n 1 "$work/$1.log" | cut -c1-1000)"
-    fi >"$work/$1.unedited.res"
-}
-
-# A repository in folder $1 that differs from this one only in crate $2, of which it has a copy, and in what rt writes. The
-# incremental folder's files are linked: the prover replaces them and writes into none.
-stand_in() {
-    mkdir -p "$1/crates" "$1/target/inc"
-    ln -s "$root"/crates/* "$1/crates/"
-    rm "$1/crates/$2"
-    mkdir "$1/crates/$2"
-    cp -R "$root/crates/$2"/{src,specs,proofs} "$1/crates/$2/" 2>/dev/null
-    cp "$root/crates.txt" "$1/"
-    cp -R "$root/target/stamp" "$1/target/"
-    ln -s "$root/target/rlib" "$1/target/rlib"
-    cp -Rl "$root/target/inc/$2" "$1/target/inc/"
-}
-
-# Makes the changes of edit $1 in crate folder $2.
-apply() {
-    local line file='' old=''
-    while IFS= read -r line; do
-        case $line in
-        'file: '*) file=${line#file: } ;;
-        'old: '*) old=${line#old: } ;;
-        'new:'*)
-            line=${line#new:}
-            replace "$2/$file" "$old" "${line# }" || return 1
-            ;;
-        esac
-    done <"$1"
-    [ -n "$old" ]
+        echo "$1 NOT PROVED unedited: $(tail -n 1 "$place.log" | cut -c1-1000)" >"$place.res"
+    fi
+    rm -rf "$place"
 }
 
 # Tries edit $2 of crate $1; writes its verdict to $work/CRATE.NAME.res and its log beside those of rt.
@@ -69,10 +43,10 @@ try() {
     place=$work/$crate.$name
     log=$root/target/must-fail/$crate/$name/.log
     mkdir -p "$(dirname "$log")"
-    stand_in "$place" "$crate"
-    if ! apply "$edit" "$place/crates/$crate"; then
+    stand_in "$place" "$crate" "$crate"
+    if ! apply "$edit" "$place/crates" "$crate"; then
         echo "must-fail $crate/$name: BAD EDIT: an old text is not in its file exactly once" >"$place.res"
-    elif (cd "$place" && RT_JOBS=1 rt dev "$crate") >"$log" 2>&1; then
+    elif check_in "$place" "$crate" >"$log" 2>&1; then
         echo "must-fail $crate/$name: NOT REFUSED: the crate is still proved with this edit" >"$place.res"
     elif ! grep -q '^logic=not-proved' "$log"; then
         echo "must-fail $crate/$name: BAD EDIT: it did not reach the prover: $(tail -n 1 "$log" | cut -c1-1000)" >"$place.res"
@@ -87,9 +61,6 @@ crates=${1:-$(sed -nE 's/^([A-Za-z0-9_]+):.*/\1/p' crates.txt)}
 tried=0
 for crate in $crates; do
     [ -z "$(edits_of "$crate" "${2:-}")" ] || beside unedited "$crate"
-done
-wait
-for crate in $crates; do
     for edit in $(edits_of "$crate" "${2:-}"); do
         tried=$((tried + 1))
         beside try "$crate" "$edit"

@@ -2,130 +2,99 @@
 # Spoiled definitions. Each tests/spoiled/*.edit names a crate, a change of one of its definitions, and the crate above it
 # that must be refused for it, with the file in which the refusal has to stand: `crate:`, `file:`, `old:`, `new:` (one line
 # each, old and new in pairs), `refused:`, `at:`.
-# The crates are copied aside, the change is made in the copy, and every crate up to the refused one is proved. Where an
-# example has to refuse it, `at: specs/..`, the laws in proofs/ are left out, since they may refuse it before the example does;
-# where a theorem has to, `at: proofs/..`, the computed examples are left out for the same reason.
+#   tests/spoiled.sh         every edit, after rt ci
+#   tests/spoiled.sh NAME    one of them; what has changed is proved first
+# The crates up to the refused one are copied aside, the change is made in the copy, and all that it touches is checked in one run:
+# what an example says of the change does not wait for what a law says. Where a theorem has to refuse it, `at: proofs/..`, the
+# computed examples, which take the longest, are left out.
 # The refusal has to be at a fact: a missing name or a definition that is no longer well formed does not count.
-# First the same copies are proved unedited: where they fail by themselves, that an edit is refused means nothing. A crate that
-# an edit leaves as it was, with all below it, is not proved again.
+# First the same copies are checked unedited: where they fail by themselves, that an edit is refused means nothing.
 # Ends with 'N passed, M failed', a copy proved unedited or an edit refused being one passed; exits non-zero where one failed.
 set -uo pipefail
 cd "$(dirname "$0")/.."
 source tests/common.sh
 root=$PWD
-work=$(mktemp -d)
+mkdir -p target
+work=$(mktemp -d "$root/target/spoiled.XXXXXX")
 trap 'rm -rf "$work"' EXIT
+checked=$(checked_name "$work/empty")
+edits=(tests/spoiled/${1:-*}.edit)
+tops=$(sed -n 's/^refused: //p' "${edits[@]}" | sort -u)
+[ $# -eq 0 ] || up_to_date $tops || exit 1
 
 # What a crate stands on, itself last.
 below() {
-    local deps dep
-    deps=$(sed -n "s/^$1: *//p; s/^$1:$//p" "$root/crates.txt")
-    for dep in $deps; do
-        [ -d "$root/crates/$dep" ] && below "$dep"
+    local dep
+    for dep in $(deps_of "$1"); do
+        [ ! -d "crates/$dep" ] || below "$dep"
     done
     echo "$1"
 }
 
-# Copies the crates up to $2 into folder $1, with the parts named after that.
-copy_crates() {
-    local place=$1 top=$2 name part
-    shift 2
-    mkdir -p "$place/crates"
-    for name in $(below "$top" | awk '!seen[$0]++'); do
-        mkdir -p "$place/crates/$name"
-        for part in "$@"; do
-            [ ! -d "crates/$name/$part" ] || cp -R "crates/$name/$part" "$place/crates/$name/"
-        done
-        grep "^$name:" crates.txt >>"$place/crates.txt"
-    done
+# The same, each once.
+copies_for() {
+    below "$1" | awk '!seen[$0]++'
 }
 
-# Copies the crates up to the refused one $2 into folder $1, as a refusal at $3 needs them.
-copy_for() {
-    case $3 in
-    specs/*) copy_crates "$1" "$2" src specs ;;
-    *)
-        copy_crates "$1" "$2" src specs proofs
-        if [ -d "$1/crates/rules" ]; then
-            rm "$1/crates/rules/specs/Examples.antt"
-            sed -i '/^pub mod Examples$/d' "$1/crates/rules/specs/Lib.antt"
-        fi
-        ;;
-    esac
-}
-
-# What an edit asks to be refused, and whether with or without the laws: the copies that are proved unedited.
-copies() {
-    local edit
-    for edit in tests/spoiled/*.edit; do
-        sed -nE 's/^refused: //p' "$edit" | tr '\n' ' '
-        sed -nE 's/^at: ([a-z]+)\/.*/\1/p' "$edit"
-    done | sort -u
-}
-
-# Proves one copy unedited; writes its verdict to $work/unedited.CRATE.PART.res and leaves its proofs for the edits.
+# Checks the copies up to crate $1 unedited; writes the verdict to $work/CRATE.unedited.res.
 unedited() {
-    local top=$1 part=$2 place=$work/unedited.$1.$2
-    copy_for "$place" "$top" "$part/"
-    if (cd "$place" && RT_JOBS=1 rt check "$top") >"$place.log" 2>&1; then
-        echo "proved: $top unedited, for refusals in $part/" >"$place.res"
-        mv "$place/target" "$place.target"
+    local top=$1 place=$work/$1.unedited copies
+    copies=$(copies_for "$top")
+    stand_in "$place" "$top" $copies
+    if check_in "$place" "$top" $copies >"$place.log" 2>&1; then
+        echo "proved: $top and all below it unedited" >"$place.res"
     else
-        tail -n 20 "$place.log" | cut -c1-1000
-        echo "unedited $top NOT PROVED, for refusals in $part/: $(tail -n 1 "$place.log")" >"$place.res"
+        echo "unedited $top NOT PROVED: $(tail -n 1 "$place.log" | cut -c1-1000)" >"$place.res"
     fi
     rm -rf "$place"
 }
 
-# Tries one edit; writes its verdict to $work/LABEL.res.
+# Leaves the computed examples out of the copy of rules in repository $1, if it has one.
+without_examples() {
+    local rules=$1/crates/rules/specs
+    if [ ! -L "$1/crates/rules" ]; then
+        rm "$rules/Examples.antt"
+        sed -i '/^pub mod Examples$/d' "$rules/Lib.antt"
+    fi
+}
+
+# Tries one edit; writes its verdict to $work/NAME.res.
 try() {
-    local edit=$1 label place line crate='' file='' old='' refused at found log
-    label=$(basename "$edit" .edit)
-    place=$work/$label
+    local edit=$1 name place log refused at found copies
+    name=$(basename "$edit" .edit)
+    place=$work/$name
+    log=$place.log
     refused=$(sed -n 's/^refused: //p' "$edit")
     at=$(sed -n 's/^at: //p' "$edit")
-    copy_for "$place" "$refused" "$at"
-    while IFS= read -r line; do
-        case $line in
-        'crate: '*) crate=${line#crate: } ;;
-        'file: '*) file=${line#file: } ;;
-        'old: '*) old=${line#old: } ;;
-        'new: '*)
-            if ! replace "$place/crates/$crate/$file" "$old" "${line#new: }"; then
-                echo "spoiled $label: BAD EDIT: its old text is not in $crate/$file exactly once" >"$place.res"
-                return
-            fi
-            ;;
-        esac
-    done <"$edit"
-    log=$place.log
-    cp -R "$work/unedited.$refused.${at%%/*}.target" "$place/target"
-    (cd "$place" && RT_JOBS=1 rt check "$refused") >"$log" 2>&1
-    found=$(grep -m 1 -E "/$at:[0-9]+:[0-9]+: error" "$log" | cut -c1-1000)
-    if ! grep -q "^rt: FAILED: $refused\$" "$log"; then
-        echo "spoiled $label: NOT REFUSED by $refused: $(tail -n 1 "$log")" >"$place.res"
-    elif [ -z "$found" ]; then
-        echo "spoiled $label: NOT REFUSED in $at" >"$place.res"
-    elif grep -qE 'not in scope|was not admitted|no field|has no' <<<"$found"; then
-        echo "spoiled $label: BAD EDIT: refused at a name and not at a fact: $found" >"$place.res"
+    copies=$(copies_for "$refused")
+    stand_in "$place" "$refused" $copies
+    case $at in proofs/*) without_examples "$place" ;; esac
+    if ! apply "$edit" "$place/crates"; then
+        echo "spoiled $name: BAD EDIT: an old text is not in its file exactly once" >"$place.res"
+    elif check_in "$place" "$refused" $copies >"$log" 2>&1; then
+        echo "spoiled $name: NOT REFUSED by $refused" >"$place.res"
     else
-        echo "refused: spoiled $label, as it must be ($refused, $(grep -oE "$at:[0-9]+:[0-9]+" <<<"$found"))" >"$place.res"
+        found=$(grep -m 1 -E "crates/$refused/$at:[0-9]+:[0-9]+: error" "$log" | cut -c1-1000)
+        if [ -z "$found" ]; then
+            echo "spoiled $name: NOT REFUSED in $refused/$at: $(tail -n 1 "$log" | cut -c1-1000)" >"$place.res"
+        elif grep -qE 'not in scope|was not admitted|no field|has no' <<<"$found"; then
+            echo "spoiled $name: BAD EDIT: refused at a name and not at a fact: $found" >"$place.res"
+        else
+            echo "refused: spoiled $name, as it must be ($refused, $(grep -oE "$at:[0-9]+:[0-9]+" <<<"$found"))" >"$place.res"
+        fi
     fi
     rm -rf "$place"
 }
 
-while read -r top part; do
-    beside unedited "$top" "$part"
-done < <(copies)
+for top in $tops; do
+    beside unedited "$top"
+done
+for edit in "${edits[@]}"; do
+    beside try "$edit"
+done
 wait
-if ! grep -q NOT "$work"/*.res; then
-    for edit in tests/spoiled/*.edit; do
-        beside try "$edit"
-    done
-    wait
-fi
+all=$((${#edits[@]} + $(ls "$work"/*.unedited.res | wc -l)))
 cat "$work"/*.res
 good=$(cat "$work"/*.res | grep -cE '^(refused|proved): ')
-all=$(($(copies | wc -l) + $(ls tests/spoiled/*.edit | wc -l)))
 echo "$good passed, $((all - good)) failed"
 [ "$good" -eq "$all" ]

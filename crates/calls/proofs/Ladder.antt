@@ -1,18 +1,30 @@
 -- The command of a number that the code's ladder has, or has not, in one of its rows.
 use mathlib.Core.Logic.{_≢_}
-use mathlib.Core.Path.{_≡_, ap}
+use mathlib.Core.Path.{_≡_, refl, sym, ap, _∙_}
 use Prim.Native.Nat.{ℕ, _≤_, _<_}
 use native.Mathlib.Omega.{arith}
 use borrow.Author.Tests.{ne-eqb, lt-ltb, le-ltb}
 use Rattle.layout.specs.Basics.{check}
 use Rattle.layout.specs.Status.{badCommand, notServed}
 use Rattle.rules.specs.declared.Command.{Command}
-use Rattle.rules.specs.declared.Command.the-variants.{Unlisted}
+use Rattle.rules.specs.declared.Command.the-variants.{Moves, Close, Files, Unlisted}
+use Rattle.rules.specs.declared.Transfer.the-variants.{Get, Put}
+use Rattle.rules.specs.declared.FileCommand.the-variants.{Open, Status, Rename, Delete, Lock, Unlock, Format}
 use Rattle.rules.specs.Cio.{commandOf, commandStatus, TellsCommand}
 
 -- a command that is the one of the rules has its number
 pub tells-command : {k r : Command} → r ≡ k → TellsCommand k r
 tells-command e = (e, ap commandStatus e)
+
+-- a number with a row of its own has the row's command
+pub tells-row : {n m : ℕ} {k : Command} → commandOf m ≡ k → n ≡ m → TellsCommand (commandOf n) k
+tells-row r e = tells-command (sym (ap commandOf e ∙ r))
+
+-- the rows
+pub rows : (commandOf 3 ≡ Files Open) × (commandOf 7 ≡ Moves Get) × (commandOf 11 ≡ Moves Put) × (commandOf 12 ≡ Close) × (commandOf 13 ≡ Files Status)
+    × (commandOf 32 ≡ Files Rename) × (commandOf 33 ≡ Files Delete) × (commandOf 35 ≡ Files Lock) × (commandOf 36 ≡ Files Unlock) × (commandOf 254 ≡ Files Format)
+unfolding commandOf check
+rows = (refl, refl, refl, refl, refl, refl, refl, refl, refl, refl)
 
 -- a number that has no row of its own
 abbrev pub NoRow : ℕ → Type 0

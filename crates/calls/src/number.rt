@@ -3,7 +3,8 @@ use layout::status;
 use rules::Command;
 use rules::FileCommand;
 use rules::Transfer;
-ghost use Rattle.rules.specs.Cio.{commandOf, TellsCommand};
+ghost use mathlib.Core.Path.{_≡_};
+ghost use Rattle.rules.specs.Cio.{commandOf, commandStatus, TellsCommand};
 
 // What a command number asks for: 132 for 0 to 2, 168 for any other not listed.
 pub fn command_of(n: u8) -> Command
@@ -22,5 +23,17 @@ pub fn command_of(n: u8) -> Command
         254 => Command::Files(FileCommand::Format),
         0..=2 => Command::Unlisted(status::BAD_COMMAND),
         _ => Command::Unlisted(status::NOT_SERVED),
+    }
+}
+
+// The number of each case.
+pub fn command_status(k: Command) -> u8
+    ensures { λ r. ⌜ r ≡ commandStatus k ⌝ }
+{
+    match k {
+        Command::Moves(_) => status::SUCCESS,
+        Command::Close => status::SUCCESS,
+        Command::Files(_) => status::SUCCESS,
+        Command::Unlisted(n) => n,
     }
 }

@@ -17,5 +17,5 @@ module _ (g : Geometry) (d : Disk) (t : Table) (x : Target) (rest : ℕ → Effe
   pub aimed-other : (r : Target) → r ≡ x → OneOf (1 ∷ 2 ∷ []) (tagOf the-type r) → aimed g d t x rest ≡ refused (targetStatus r) d t
   unfolding aimed
   aimed-other (Slot s) p h = ⊎-elim (λ q. absurd (omega (arith, q))) (λ q. absurd (omega (arith, q))) h
-  aimed-other (Missing a e) p h = rw (← p, aimed)
+  aimed-other (Missing word extension) p h = rw (← p, aimed)
   aimed-other (Denied status) p h = rw (← p, aimed)

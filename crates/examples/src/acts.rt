@@ -1,18 +1,19 @@
-// What an order does. The words and what each prints stand in main.rt.
-use super::order::Order;
+// What an order does, by the functions that C calls. The words and what each prints stand in main.rt.
+use super::order::behind;
+use super::order::decimal;
 use super::steps::answer;
 use super::steps::call;
 use super::steps::fill_directory;
 use super::steps::hex;
 use super::steps::make;
 use super::steps::number;
-use channels::table::fresh_table;
-use headers::write_header;
-use layout::Table;
-use names::name_status;
-use names::read_name;
-use recovery::recover;
-use sectors::command::sector_call;
+use super::steps::status;
+use super::steps::transfer;
+use capi::dos_cio;
+use capi::dos_header;
+use capi::dos_name;
+use capi::dos_recover;
+use capi::dos_sector;
 ghost use Prim.Native.Nat.{_≤_};
 
 // The length of a file with a disk of double density.
@@ -28,70 +29,6 @@ fn show(letter: u8, x: u8, y: u8) {
     }
 }
 
-// The same of a sector that is read into so many bytes.
-fn show_sector(image: &mut [u8], letter: u8, sector: u16, size: usize, at: usize)
-    requires { ⌜ size ≤ 256 ⌝ }
-{
-    let mut space = [0u8; 257];
-    sector_call(image, 0x31, 1, 0x52, sector, &mut space[0..size]);
-    if at < 256 {
-        show(letter, space[at], space[at + 1]);
-    }
-}
-
-// A sector read into so many bytes.
-fn read(image: &mut [u8], sector: u16, n: usize) {
-    let mut space = [0u8; 256];
-    if n <= 256 {
-        let r = sector_call(image, 0x31, 1, 0x52, sector, &mut space[0..n]);
-        answer(r.status, r.count);
-    }
-}
-
-// A command with a name, all channels closed.
-fn command(image: &mut [u8], code: u8, direction: u8, text: &[u8]) -> Table {
-    let mut none = [0u8; 0];
-    let a = call(image, fresh_table(), code, direction, text, &mut none);
-    number(a.status as u64);
-    a.table
-}
-
-// A get or a put of these bytes. To take is to show them too; to peek is to leave the channel as it was.
-fn move_bytes(image: &mut [u8], t: Table, code: u8, letter: u8, bytes: &mut [u8]) -> Table {
-    let a = call(image, t, code, 0, b"", bytes);
-    answer(a.status, a.count);
-    if letter == b't' {
-        io::write_all(1, b" ");
-        io::write_all(1, bytes);
-    }
-    if letter == b'p' {
-        return t;
-    }
-    a.table
-}
-
-// A get of so many bytes.
-fn get(image: &mut [u8], t: Table, n: usize, letter: u8) -> Table {
-    let mut space = [0u8; 256];
-    if n > 256 {
-        return t;
-    }
-    move_bytes(image, t, 7, letter, &mut space[0..n])
-}
-
-// A byte of the image, where it has that one.
-fn show_byte(image: &[u8], at: usize) {
-    if at < image.len() {
-        hex(image[at]);
-    }
-}
-
-// Recovery of a slot.
-fn undelete(image: &mut [u8], slot: u16) {
-    let r = recover(image, slot);
-    answer(r.status, r.count);
-}
-
 // The size of the sectors from the fourth on.
 fn size_of(image: &[u8]) -> usize
     ensures { λ r. ⌜ r ≤ 256 ⌝ }
@@ -102,48 +39,110 @@ fn size_of(image: &[u8]) -> usize
     128
 }
 
+// A sector read into so many bytes: what the call answered, or the same of the bytes at a place.
+fn read(image: &mut [u8], letter: u8, sector: u16, n: usize, at: usize)
+    requires { ⌜ n ≤ 256 ⌝ }
+{
+    let mut space = [0u8; 257];
+    let result = dos_sector(image, 0x31, 1, 0x52, sector, &mut space[0..n]);
+    if letter == b'r' {
+        answer(result);
+    } else if at < 256 {
+        show(letter, space[at], space[at + 1]);
+    }
+}
+
+// A sector read into as many bytes as are said, or as it has.
+fn read_sector(image: &mut [u8], letter: u8, first: usize, last: usize) {
+    let sector = (first % 65536) as u16;
+    let size = size_of(image);
+    if letter == b'r' {
+        read(image, letter, sector, last % 257, 0);
+    } else {
+        read(image, letter, sector, size, last);
+    }
+}
+
+// A command by its number, with a direction and a name, all channels closed before.
+fn command(image: &mut [u8], words: &mut [u16; 40], code: usize, parts: &[u8]) {
+    let direction = decimal(parts);
+    let at = behind(parts, 0);
+    words[0] = 0;
+    status(call(
+        image,
+        words,
+        (code % 256) as u8,
+        (direction % 256) as u8,
+        &parts[at..],
+    ));
+}
+
+// Three bytes got, and shown.
+fn take(image: &mut [u8], words: &mut [u16; 40]) {
+    let mut three = [0u8; 3];
+    answer(dos_cio(image, words, 0, 7, 0, b"", &mut three));
+    io::write_all(1, b" ");
+    io::write_all(1, &three);
+}
+
+// A get of n bytes, the channel left as it was.
+fn peek(image: &mut [u8], words: [u16; 40], n: usize) {
+    let mut copy = words;
+    answer(transfer(image, &mut copy, 7, n));
+}
+
+// Bytes moved on the channel that is open.
+fn move_bytes(image: &mut [u8], words: &mut [u16; 40], letter: u8, n: usize) {
+    match letter {
+        b'g' => answer(transfer(image, words, 7, n)),
+        b'p' => peek(image, *words, n),
+        b't' => take(image, words),
+        _ => answer(transfer(image, words, 11, n)),
+    }
+}
+
+// A byte of the image, where it has that one.
+fn show_byte(image: &[u8], at: usize) {
+    if at < image.len() {
+        hex(image[at]);
+    }
+}
+
+// A name's status.
+fn name(text: &[u8]) {
+    let mut eleven = [0u8; 11];
+    status(dos_name(text, &mut eleven));
+}
+
 // Orders that are about the disk alone.
-fn look(image: &mut [u8], text: &[u8], letter: u8, first: u16, last: usize) {
+fn look(image: &mut [u8], letter: u8, first: usize, last: usize) {
     match letter {
-        b'i' => show_byte(image, last),
-        b'r' => read(image, first, last),
-        b'n' => number(name_status(read_name(text)) as u64),
+        b'i' => show_byte(image, first),
         b'f' => number(fill_directory(image) as u64),
-        b'h' => number(write_header(image).status as u64),
-        b'u' => undelete(image, (last % 65536) as u16),
-        _ => show_sector(image, letter, first, size_of(image), last),
+        b'h' => status(dos_header(image)),
+        b'u' => answer(dos_recover(image, (first % 256) as u8)),
+        _ => read_sector(image, letter, first, last),
     }
 }
 
-// An order with the bytes that are to be written; the channels after it.
-fn act_on(image: &mut [u8], bytes: &mut [u8], text: &[u8], o: Order, t: Table) -> Table {
-    let letter = o.letter;
+// An order known by its letter, with what stands behind its word: numbers and a text.
+fn act_on(image: &mut [u8], words: &mut [u16; 40], letter: u8, parts: &[u8]) {
+    let first = decimal(parts);
+    let at = behind(parts, 0);
     match letter {
-        b'c' => command(image, (o.first % 256) as u8, (o.last % 256) as u8, text),
-        b'g' | b'p' | b't' => get(image, t, o.last as usize, letter),
-        b'w' => move_bytes(image, t, 11, b'w', bytes),
-        b'm' => {
-            number(make(image, text, bytes) as u64);
-            t
-        }
-        _ => {
-            look(
-                image,
-                text,
-                letter,
-                (o.first % 65536) as u16,
-                o.last as usize,
-            );
-            t
-        }
+        b'c' => command(image, words, first, &parts[at..]),
+        b'g' | b'p' | b't' | b'w' => move_bytes(image, words, letter, first),
+        b'm' => status(make(image, &parts[at..], first)),
+        b'n' => name(parts),
+        _ => look(image, letter, first, decimal(&parts[at..])),
     }
 }
 
-// An order, with the text behind its numbers: its last number says how many bytes are to be written.
-pub fn act(image: &mut [u8], bytes: &mut [u8], text: &[u8], o: Order, t: Table) -> Table {
-    let n = o.last as usize;
-    if n > bytes.len() {
-        return t;
+// An order.
+pub fn act(image: &mut [u8], words: &mut [u16; 40], order: &[u8]) {
+    if order.len() == 0 {
+        return;
     }
-    act_on(image, &mut bytes[0..n], text, o, t)
+    let at = behind(order, 0);
+    act_on(image, words, order[0], &order[at..]);
 }

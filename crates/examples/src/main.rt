@@ -1,10 +1,11 @@
-// The ten bench examples of document 01, run through the library's calls, a line for each, and what is other on a disk of double density.
+// The ten bench examples of document 01, run through the functions that C calls, a line for each, and what is other on a disk of double density.
 // The examples are the file `stdin`, one to a line. What stands outside of braces is printed as it is; braces hold an order, and in its
 // place is printed what the calls answered, or what the sector call reads back. Orders in place of code keep what is to be proved small:
 // an example more is a line more of that file. A `=` ends the lines for a raw image and those for a disk of double density.
 //   call C D NAME   a CIO command by its number, with a direction and a name, all channels closed before: the status
 //   get N           N bytes from the channel that the last call opened: the status and the count
-//   peek N, take N  the same; the channel stays as it was; the bytes are printed too
+//   peek N          the same; the channel stays as it was
+//   take            the same of three bytes, which are printed too
 //   write N         N bytes put to the channel
 //   make N NAME     a file of N bytes, by open, put and close: the first status that is no success
 //   fill            files of one byte until that is refused, at most 64: how many
@@ -37,27 +38,22 @@ fn with_endings(script: &mut [u8]) {
     }
 }
 
-// A byte set, where there is one.
-fn set(bytes: &mut [u8], i: usize, b: u8) {
-    if i < bytes.len() {
-        bytes[i] = b;
-    }
+// The first part of the script, on a raw image: where the other begins.
+fn run_raw(script: &[u8]) -> usize {
+    let mut image = [77u8; 92160];
+    run(&mut image, script, 0)
 }
 
-// The script read and run: its first part on a raw image, the other on a disk of double density. Files are made of bytes that begin XYZ.
-fn bench(image: &mut [u8], disk: &mut [u8], bytes: &mut [u8], script: &mut [u8]) {
-    io::read_full(0, script);
-    with_endings(script);
-    set(bytes, 1, b'Y');
-    set(bytes, 2, b'Z');
-    let next = run(image, bytes, script, 0);
-    run(disk, bytes, script, next);
+// The other part, on a disk of double density.
+fn run_double(script: &[u8], from: usize) {
+    let mut image = [77u8; 183952];
+    run(&mut image, script, from);
 }
 
 fn main() {
-    let mut image = [77u8; 92160];
-    let mut disk = [77u8; 183952];
-    let mut bytes = [b'X'; 178871];
     let mut script = [0u8; 4096];
-    bench(&mut image, &mut disk, &mut bytes, &mut script);
+    io::read_full(0, &mut script);
+    with_endings(&mut script);
+    let next = run_raw(&script);
+    run_double(&script, next);
 }

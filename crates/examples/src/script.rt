@@ -1,70 +1,39 @@
 // The script run: what stands outside of braces is printed as it is, and an order is done at its closing brace.
 use super::acts::act;
-use super::order::OPENED;
-use super::order::OUTSIDE;
-use super::order::Order;
-use super::order::blank;
-use super::order::with_byte;
-use channels::table::fresh_table;
-use layout::Table;
 ghost use Prim.Native.Nat.{_<_};
 ghost use lib.ListN.{length};
 
-// The order that is being read, and the channels.
-pub struct State {
-    pub order: Order,
-    pub table: Table,
-}
-
-// A byte outside of orders.
-fn outside(b: u8) -> Order {
-    if b == b'{' {
-        return blank(OPENED);
-    }
-    io::write_all(1, &[b]);
-    blank(OUTSIDE)
-}
-
-// One byte of the script.
-fn turn(image: &mut [u8], bytes: &mut [u8], script: &[u8], at: usize, s: State) -> State
+// One byte of the script: where the order that is being read started, before it and after it, or 0 outside of orders.
+fn turn(image: &mut [u8], words: &mut [u16; 40], script: &[u8], at: usize, start: usize) -> usize
     requires { ⌜ at < length (now script) ⌝ }
 {
     let b = script[at];
-    let o = s.order;
-    let t = s.table;
-    if o.mode == OUTSIDE {
-        return State {
-            order: outside(b),
-            table: t,
-        };
-    }
-    let start = o.start;
-    if b == b'}' {
-        if start <= at {
-            return State {
-                order: blank(OUTSIDE),
-                table: act(image, bytes, &script[start..at], o, t),
-            };
+    if start == 0 {
+        if b == b'{' {
+            return at + 1;
         }
+        io::write_all(1, &[b]);
+        return 0;
     }
-    State {
-        order: with_byte(o, b, at),
-        table: t,
+    if b != b'}' {
+        return start;
     }
+    if start <= at {
+        act(image, words, &script[start..at]);
+    }
+    0
 }
 
 // The script from a place on, to the sign that ends a part of it; what stands behind the sign.
-pub fn run(image: &mut [u8], bytes: &mut [u8], script: &[u8], from: usize) -> usize {
-    let mut s = State {
-        order: blank(OUTSIDE),
-        table: fresh_table(),
-    };
+pub fn run(image: &mut [u8], script: &[u8], from: usize) -> usize {
+    let mut words = [0u16; 40];
+    let mut start = 0;
     let mut at = from;
     while at < script.len() {
         if script[at] == b'=' {
             return at + 1;
         }
-        s = turn(image, bytes, script, at, s);
+        start = turn(image, &mut words, script, at, start);
         at += 1;
     }
     at

@@ -5,7 +5,7 @@ use layout::density::Medium;
 ghost use mathlib.Core.Path.{_≡_};
 ghost use Rattle.layout.specs.Image.{Whole, geometryOf, view};
 ghost use Rattle.layout.specs.Volume.{formatted};
-ghost use Rattle.formats.specs.Zeros.{cleared, withOnes, withMap};
+ghost use Rattle.formats.specs.Zeros.{cleared, withOnes, withMap, withCounts};
 
 // All bytes behind the header set to zero.
 fn clear(m: Medium, image: &mut [u8])
@@ -43,14 +43,22 @@ fn write_map(m: Medium, image: &mut [u8])
     write_byte(m, image, 360, 56, 0x7F);
 }
 
+// Volume code 2, and 707 sectors, all of them free.
+fn write_counts(m: Medium, image: &mut [u8])
+    requires { ⌜ Whole m (now image) ⌝ }
+    ensures { λ _. ⌜ view (geometryOf m) (now (image .exit)) ≡ withCounts (view (geometryOf m) (now (image .entry))) ⌝ }
+{
+    write_byte(m, image, 360, 0, 2);
+    write_word(m, image, 360, 1, 707);
+    write_word(m, image, 360, 3, 707);
+}
+
 // The formatted disk.
 pub fn format(m: Medium, image: &mut [u8])
     requires { ⌜ Whole m (now image) ⌝ }
     ensures { λ _. ⌜ view (geometryOf m) (now (image .exit)) ≡ formatted (view (geometryOf m) (now (image .entry))) ⌝ }
 {
     clear(m, image);
-    write_byte(m, image, 360, 0, 2);
-    write_word(m, image, 360, 1, 707);
-    write_word(m, image, 360, 3, 707);
+    write_counts(m, image);
     write_map(m, image);
 }

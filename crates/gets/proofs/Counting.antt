@@ -18,6 +18,7 @@ use Rattle.layout.specs.Volume.{dataSector}
 use Rattle.layout.specs.File.{owner, next, inUse, fits}
 use Rattle.layout.proofs.Logic.{and-left, and-right, and-no}
 use Rattle.layout.proofs.Data.{data-cases, data-facts}
+use Rattle.gets.specs.declared.whole.Filled.{Filled}
 use Rattle.gets.specs.Entered.{full, leadsOn, Consecutive, Fills, FillsBehind}
 use Rattle.gets.proofs.Getting.{gets-start, gets-full}
 
@@ -53,42 +54,42 @@ module _ (g : Geometry) (d : Disk) (s k : ℕ) where
   unfolding leadsOn
   leads-next e = eqb-true (next g (d k)) (k + 1) (and-right (full g d s k) (eqb (next g (d k)) (k + 1)) e)
 
--- a get behind sector k, at most n sectors on: at its byte i with buffer b, j of them are entered
-pub record Counting (g : Geometry) (d : Disk) (s k n i₀ : ℕ) (b₀ : List ℕ) (j i : ℕ) (b : List ℕ) : Type 0 where
+-- a get from the end of a sector on, at most n sectors on: at its byte i with buffer b, j of them are entered
+pub record Counting (g : Geometry) (d : Disk) (s : ℕ) (w : Filled) (n : ℕ) (b₀ : List ℕ) (j i : ℕ) (b : List ℕ) : Type 0 where
   pub most : j ≤ n
   pub within : i ≤ length b₀
-  pub filled : i ≡ i₀ + j * g .room
-  pub leads : next g (d (k + j)) ≡ k + 1 + j
-  pub fills : (l : ℕ) → n ≤ l → Fills g d s k l i₀ b₀ (k + j) (l - j) i b
+  pub filled : i ≡ w .count + j * g .room
+  pub leads : next g (d (w .sector + j)) ≡ w .sector + 1 + j
+  pub fills : Fills g d s w b₀ (record { sector = w .sector + j; left = w .left - j; count = i }) b
 
-module _ {g : Geometry} {d : Disk} {s k n i₀ : ℕ} {b₀ : List ℕ} where
-  pub counting-holds : 4 ≤ k → i₀ ≤ length b₀ → Consecutive g d k → Counting g d s k n i₀ b₀ 0 i₀ b₀
+module _ {g : Geometry} {d : Disk} {s : ℕ} {w : Filled} {n : ℕ} {b₀ : List ℕ} where
+  pub counting-holds : 4 ≤ w .sector → w .count ≤ length b₀ → Consecutive g d (w .sector) → Counting g d s w n b₀ 0 (w .count) b₀
   counting-holds a h t = record {
     most = omega arith;
     within = h;
     filled = omega arith;
-    leads = rw (add-zero k, add-zero (k + 1)) (t .leads);
-    fills = λ l q. rw (add-zero k, sub-zero l) (a, gets-start i₀ _ b₀ h (t .entered));
+    leads = rw (add-zero (w .sector), add-zero (w .sector + 1)) (t .leads);
+    fills = rw (add-zero (w .sector), sub-zero (w .left)) (a, gets-start (w .count) _ b₀ h (t .entered));
   }
 
-  module _ {j i : ℕ} {b : List ℕ} (w : Counting g d s k n i₀ b₀ j i b) where
-    pub counting-again : 0 < g .room → j < n → i + g .room ≤ length b₀ → leadsOn g d s (k + 1 + j) ≡ true → (c : List ℕ) → c ≡ sets b i (valuesFrom (d (k + 1 + j)) (g .room) 0)
-        → Counting g d s k n i₀ b₀ (j + 1) (i + g .room) c
-    counting-again r h f u c z =
-        let e : k + (j + 1) ≡ k + 1 + j = omega arith in
+  module _ {j i : ℕ} {b : List ℕ} (q : Counting g d s w n b₀ j i b) where
+    pub counting-again : n ≤ w .left → 0 < g .room → j < n → i + g .room ≤ length b₀ → leadsOn g d s (w .sector + 1 + j) ≡ true → (c : List ℕ) → c ≡ sets b i (valuesFrom (d (w .sector + 1 + j)) (g .room) 0)
+        → Counting g d s w n b₀ (j + 1) (i + g .room) c
+    counting-again l r h f u c z =
+        let k = w .sector + 1 + j in
+        let e : w .sector + (j + 1) ≡ k = omega arith in
         let m : (j + 1) * g .room ≡ j * g .room + g .room = rw (add-one j) (suc-mul j (g .room)) in
-        let x = w .filled in
-        let y = leads-next g d s (k + 1 + j) u in
+        let o : w .left - (j + 1) ≡ w .left - j - 1 = omega arith in
+        let x = q .filled in
+        let y = leads-next g d s k u in
+        let v = q .fills in
         record {
           most = omega arith;
           within = f;
           filled = omega arith;
           leads = rw e (y ∙ omega arith);
-          fills = λ l q.
-              let v = w .fills l q in
-              let o : l - (j + 1) ≡ l - j - 1 = omega arith in
-              rw (e, o) (let a = v .0 in omega arith, gets-full r (v .1) (v .0) (omega arith) f (k + 1 + j) (sym (w .leads)) (leads-full g d s (k + 1 + j) u) c z);
+          fills = rw (e, o) (let a = v .0 in omega arith, gets-full r (v .1) (v .0) (omega arith) f k (sym (q .leads)) (leads-full g d s k u) c z);
         }
 
-    pub counting-done : FillsBehind g d s k n i₀ b₀ j b
-    counting-done = (w .most, λ l q. rw (← w .filled) (w .fills l q))
+    pub counting-done : FillsBehind g d s w n b₀ j b
+    counting-done = (q .most, rw (← q .filled) (q .fills))

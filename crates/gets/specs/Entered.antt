@@ -9,6 +9,7 @@ use Rattle.layout.specs.Image.{Disk, Geometry}
 use Rattle.layout.specs.Volume.{dataSector}
 use Rattle.layout.specs.File.{next, inUse, fits}
 use Rattle.rules.specs.declared.Place.{Place}
+use Rattle.gets.specs.declared.whole.Filled.{Filled}
 use Rattle.rules.specs.declared.Seek.{Seek}
 use Rattle.rules.specs.declared.Seek.the-variants.{Ready, Ended, Broken}
 use Rattle.rules.specs.Get.{place, getFrom}
@@ -48,9 +49,17 @@ module _ (g : Geometry) where
     pub entered : Entered d (p .sector)
     pub same : getFrom g d s (n - i₀) i₀ p₀ b₀ ≡ getFrom g d s (n - i) i p b
 
-  -- behind the end of sector k, with l yet to enter and i bytes filled of buffer b, full sectors are entered up to the end of k′, with l′ and i′ and buffer b′
-  abbrev pub Fills : Disk → ℕ → ℕ → ℕ → ℕ → List ℕ → ℕ → ℕ → ℕ → List ℕ → Type 0
-  Fills d s k l i b k′ l′ i′ b′ = (4 ≤ k′) × Gets d s (length b) i (place k (g .room) l) b i′ (place k′ (g .room) l′) b′
+  -- where a get is behind full sectors: at the end of the last of them
+  abbrev pub endOf : Filled → Place
+  endOf w = place (w .sector) (g .room) (w .left)
+
+  -- from there, with buffer b, full sectors are entered up to the end of another, with buffer b′
+  abbrev pub Fills : Disk → ℕ → Filled → List ℕ → Filled → List ℕ → Type 0
+  Fills d s w b r b′ = (4 ≤ r .sector) × Gets d s (length b) (w .count) (endOf w) b (r .count) (endOf r) b′
+
+  -- so are they where r sectors behind the first follow it on the disk, at most n
+  abbrev pub FillsBehind : Disk → ℕ → Filled → ℕ → List ℕ → ℕ → List ℕ → Type 0
+  FillsBehind d s w n b r b′ = (r ≤ n) × Fills d s w b (record { sector = w .sector + r; left = w .left - r; count = w .count + r * g .room }) b′
 
   -- a full sector leads to the one after it on the disk
   unfoldable pub leadsOn : Disk → ℕ → ℕ → Bool
@@ -60,10 +69,6 @@ module _ (g : Geometry) where
   pub record Consecutive (d : Disk) (k : ℕ) : Type 0 where
     pub entered : Entered d k
     pub leads : next g (d k) ≡ k + 1
-
-  -- the same of r sectors behind k on the disk, at most n, however many more are yet to enter
-  abbrev pub FillsBehind : Disk → ℕ → ℕ → ℕ → ℕ → List ℕ → ℕ → List ℕ → Type 0
-  FillsBehind d s k n i b r b′ = (r ≤ n) × ((l : ℕ) → n ≤ l → Fills d s k l i b (k + r) (l - r) (i + r * g .room) b′)
 
 -- the n sectors behind sector k on the disk are data sectors
 pub record DataBehind (k n : ℕ) : Type 0 where

@@ -1,6 +1,7 @@
 // Get on one channel, a sector's run of bytes at a time.
 use super::seek::seek_byte;
 use super::seek::step_in;
+use super::whole::Filled;
 use super::whole::get_whole;
 use files::chain::fits;
 use image::link::in_use;
@@ -11,6 +12,7 @@ use rules::Advanced;
 use rules::Got;
 use rules::Place;
 use rules::Seek;
+use rules::answers::refused;
 use runs::run::get_run;
 use runs::run::least;
 ghost use mathlib.Core.Path.{_≡_};
@@ -61,7 +63,12 @@ fn get_here(m: Medium, image: &[u8], slot: u16, p: Place, buffer: &mut [u8], i: 
             count: i + run,
         };
     }
-    let w = get_whole(m, image, slot, k, l, buffer, i + run);
+    let full = Filled {
+        sector: k,
+        left: l,
+        count: i + run,
+    };
+    let w = get_whole(m, image, slot, full, buffer);
     Reached {
         place: Place {
             sector: w.sector,
@@ -190,11 +197,7 @@ pub fn get_on(m: Medium, image: &[u8], st: State, buffer: &mut [u8]) -> Advanced
         × (now (buffer .exit) ≡ getOn (geometryOf m) (view (geometryOf m) (now (image .entry))) st (now (buffer .entry)) .buffer) ⌝ }
 {
     match st {
-        State::Closed => Advanced {
-            status: status::CHANNEL_CLOSED,
-            count: 0,
-            state: st,
-        },
+        State::Closed => refused(status::CHANNEL_CLOSED, st),
         State::Reading {
             slot,
             sector,
@@ -208,10 +211,6 @@ pub fn get_on(m: Medium, image: &[u8], st: State, buffer: &mut [u8]) -> Advanced
             };
             get_reading(m, image, slot, p, buffer)
         }
-        State::Writing { slot: _, last: _ } => Advanced {
-            status: status::WRITE_ONLY,
-            count: 0,
-            state: st,
-        },
+        State::Writing { slot: _, last: _ } => refused(status::WRITE_ONLY, st),
     }
 }

@@ -7,8 +7,7 @@ use image::link::next;
 use image::link::used_at;
 use layout::density::Density;
 use layout::density::Medium;
-use runs::run::get_run;
-use runs::run::get_run_at;
+use runs::run::get_data;
 ghost use mathlib.Core.Bool.{true};
 ghost use mathlib.Core.Path.{_≡_};
 ghost use Prim.Native.Nat.{ℕ, _≤_, _<_};
@@ -22,17 +21,6 @@ pub struct Filled {
     pub sector: u16,
     pub left: u16,
     pub count: usize,
-}
-
-// The end of a sector, with what is left and what is filled there.
-fn end_of(sector: u16, left: u16, count: usize) -> Filled
-    ensures { λ r. ⌜ r ≡ record { sector = sector; left = left; count = count } ⌝ }
-{
-    Filled {
-        sector,
-        left,
-        count,
-    }
 }
 
 // A sector fits, and has no room left.
@@ -81,128 +69,84 @@ fn leads_on(m: Medium, image: &[u8], slot: u16, sector: u16, at: usize) -> bool
     (link == slot * 1024 + (sector + 1)) & (used == room)
 }
 
-// Full sectors behind one that leads to the sector after it on the disk, as long as each does so too; how many. Each is found by counting and its link only compared, so that no load waits for
-// the one before, and where it starts is handed on.
-fn get_counted(
-    m: Medium,
-    image: &[u8],
-    slot: u16,
-    sector: u16,
-    most: u16,
-    buffer: &mut [u8],
-    from: usize,
-) -> u16
-    requires { ⌜ Whole m (now image) × (slot < 64) × (4 ≤ sector) × DataBehind sector most × (from ≤ length (now buffer)) × Consecutive (geometryOf m) (view (geometryOf m) (now image)) sector ⌝ }
-    ensures { λ r. ⌜ FillsBehind (geometryOf m) (view (geometryOf m) (now (image .entry))) slot sector most from (now (buffer .entry)) r (now (buffer .exit)) ⌝ }
+// Full sectors behind one that leads to the sector after it on the disk, at most `n` and as long as each does so too; how many. Each is found by counting and its link only compared, so that no load
+// waits for the one before, and where it starts is handed on.
+fn get_counted(m: Medium, image: &[u8], slot: u16, w: Filled, n: u16, buffer: &mut [u8]) -> u16
+    requires { ⌜ Whole m (now image) × (slot < 64) × (4 ≤ w .sector) × (n ≤ w .left) × DataBehind (w .sector) n × (w .count ≤ length (now buffer)) × Consecutive (geometryOf m) (view (geometryOf m) (now image)) (w .sector) ⌝ }
+    ensures { λ r. ⌜ FillsBehind (geometryOf m) (view (geometryOf m) (now (image .entry))) slot w n (now (buffer .entry)) r (now (buffer .exit)) ⌝ }
 {
     let room = m.density.room;
     let size = m.density.size;
-    let end = sector + 1 + most;
-    let mut at = start(m, sector + 1);
-    let mut k = sector + 1;
-    let mut i = from;
+    let end = w.sector + 1 + n;
+    let mut at = start(m, w.sector + 1);
+    let mut k = w.sector + 1;
+    let mut i = w.count;
     while (k < end) & (room <= buffer.len() - i) {
         if !leads_on(m, image, slot, k, at) {
-            return k - sector - 1;
+            return k - w.sector - 1;
         }
-        get_run_at(m, image, k, at, 0, room, buffer, i);
+        get_data(m, image, k, at, buffer, i);
         k += 1;
         at += size;
         i += room;
     }
-    k - sector - 1
+    k - w.sector - 1
 }
 
 // The same, with the numbers of each density as constants: the loop is short enough to be made once for each of them.
-fn get_consecutive(
-    m: Medium,
-    image: &[u8],
-    slot: u16,
-    sector: u16,
-    most: u16,
-    buffer: &mut [u8],
-    from: usize,
-) -> u16
-    requires { ⌜ Whole m (now image) × (slot < 64) × (4 ≤ sector) × DataBehind sector most × (from ≤ length (now buffer)) × Consecutive (geometryOf m) (view (geometryOf m) (now image)) sector ⌝ }
-    ensures { λ r. ⌜ FillsBehind (geometryOf m) (view (geometryOf m) (now (image .entry))) slot sector most from (now (buffer .entry)) r (now (buffer .exit)) ⌝ }
+fn get_consecutive(m: Medium, image: &[u8], slot: u16, w: Filled, n: u16, buffer: &mut [u8]) -> u16
+    requires { ⌜ Whole m (now image) × (slot < 64) × (4 ≤ w .sector) × (n ≤ w .left) × DataBehind (w .sector) n × (w .count ≤ length (now buffer)) × Consecutive (geometryOf m) (view (geometryOf m) (now image)) (w .sector) ⌝ }
+    ensures { λ r. ⌜ FillsBehind (geometryOf m) (view (geometryOf m) (now (image .entry))) slot w n (now (buffer .entry)) r (now (buffer .exit)) ⌝ }
 {
     let header = m.header;
     if m.density.size == Density::SINGLE_SIZE {
         let density = Density::single();
-        return get_counted(
-            Medium { header, density },
-            image,
-            slot,
-            sector,
-            most,
-            buffer,
-            from,
-        );
+        return get_counted(Medium { header, density }, image, slot, w, n, buffer);
     }
     if m.density.size == Density::DOUBLE_SIZE {
         let density = Density::double();
-        return get_counted(
-            Medium { header, density },
-            image,
-            slot,
-            sector,
-            most,
-            buffer,
-            from,
-        );
+        return get_counted(Medium { header, density }, image, slot, w, n, buffer);
     }
-    get_counted(m, image, slot, sector, most, buffer, from)
+    get_counted(m, image, slot, w, n, buffer)
 }
 
 // Full sectors behind a full one that was entered, where they follow it on the disk.
-fn get_behind(
-    m: Medium,
-    image: &[u8],
-    slot: u16,
-    sector: u16,
-    left: u16,
-    buffer: &mut [u8],
-    from: usize,
-) -> Filled
-    requires { ⌜ Whole m (now image) × (slot < 64) × (full (geometryOf m) (view (geometryOf m) (now image)) slot sector ≡ true) × (from ≤ length (now buffer)) ⌝ }
-    ensures { λ r. ⌜ Fills (geometryOf m) (view (geometryOf m) (now (image .entry))) slot sector left from (now (buffer .entry)) (r .sector) (r .left) (r .count) (now (buffer .exit)) ⌝ }
+fn get_behind(m: Medium, image: &[u8], slot: u16, w: Filled, buffer: &mut [u8]) -> Filled
+    requires { ⌜ Whole m (now image) × (slot < 64) × (full (geometryOf m) (view (geometryOf m) (now image)) slot (w .sector) ≡ true) × (w .count ≤ length (now buffer)) ⌝ }
+    ensures { λ r. ⌜ Fills (geometryOf m) (view (geometryOf m) (now (image .entry))) slot w (now (buffer .entry)) r (now (buffer .exit)) ⌝ }
 {
     let room = m.density.room;
-    if next(m, image, sector) != sector + 1 {
-        return end_of(sector, left, from);
+    if next(m, image, w.sector) != w.sector + 1 {
+        return w;
     }
-    let most = ahead(sector, left);
-    let n = get_consecutive(m, image, slot, sector, most, buffer, from);
-    end_of(sector + n, left - n, from + n as usize * room)
+    let most = ahead(w.sector, w.left);
+    let n = get_consecutive(m, image, slot, w, most, buffer);
+    Filled {
+        sector: w.sector + n,
+        left: w.left - n,
+        count: w.count + n as usize * room,
+    }
 }
 
 // Full sectors from the end of one on, wherever on the disk they are.
-pub fn get_whole(
-    m: Medium,
-    image: &[u8],
-    slot: u16,
-    sector: u16,
-    left: u16,
-    buffer: &mut [u8],
-    from: usize,
-) -> Filled
-    requires { ⌜ Whole m (now image) × (slot < 64) × (4 ≤ sector) × (from ≤ length (now buffer)) × Entered (geometryOf m) (view (geometryOf m) (now image)) sector ⌝ }
-    ensures { λ r. ⌜ Fills (geometryOf m) (view (geometryOf m) (now (image .entry))) slot sector left from (now (buffer .entry)) (r .sector) (r .left) (r .count) (now (buffer .exit)) ⌝ }
+pub fn get_whole(m: Medium, image: &[u8], slot: u16, w: Filled, buffer: &mut [u8]) -> Filled
+    requires { ⌜ Whole m (now image) × (slot < 64) × (4 ≤ w .sector) × (w .count ≤ length (now buffer)) × Entered (geometryOf m) (view (geometryOf m) (now image)) (w .sector) ⌝ }
+    ensures { λ r. ⌜ Fills (geometryOf m) (view (geometryOf m) (now (image .entry))) slot w (now (buffer .entry)) r (now (buffer .exit)) ⌝ }
 {
     let room = m.density.room;
-    let mut k = sector;
-    let mut l = left;
-    let mut i = from;
-    while (0 < l) & (room <= buffer.len() - i) {
-        let n = next(m, image, k);
+    let mut r = w;
+    while (0 < r.left) & (room <= buffer.len() - r.count) {
+        let n = next(m, image, r.sector);
         if !is_full(m, image, slot, n) {
-            return end_of(k, l, i);
+            return r;
         }
-        get_run(m, image, n, 0, room, buffer, i);
-        let w = get_behind(m, image, slot, n, l - 1, buffer, i + room);
-        k = w.sector;
-        l = w.left;
-        i = w.count;
+        get_data(m, image, n, start(m, n), buffer, r.count);
+        let one = Filled {
+            sector: n,
+            left: r.left - 1,
+            count: r.count + room,
+        };
+        r = get_behind(m, image, slot, one, buffer);
     }
-    end_of(k, l, i)
+    r
 }

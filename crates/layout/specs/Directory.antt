@@ -75,7 +75,7 @@ locked f = isSet f 5
 unfoldable pub outputFlag : ℕ → Bool
 outputFlag f = isSet f 0
 
--- $40 is set and $80 clear
+-- in use and not deleted: $40 is set and $80 clear
 unfoldable pub standingFlag : ℕ → Bool
 standingFlag f = isSet f 6 && not (isSet f 7)
 

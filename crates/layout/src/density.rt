@@ -70,41 +70,7 @@ impl Medium {
     pub const DOUBLE_ATR_BYTES: usize = Medium::HEADER + Density::DOUBLE_BYTES;
 
     // The headers of the two ATR files: $96 $02, the length of all sectors in units of 16 bytes (low two bytes, and the high byte at 6), the sector size at 4 and 5, and zeros.
-    pub const SINGLE_HEADER: [u8; 16] = [
-        0x96,
-        0x02,
-        0x80,
-        0x16,
-        0x80,
-        0x00,
-        0x00,
-        0,
-        0,
-        0,
-        0,
-        0,
-        0,
-        0,
-        0,
-        0,
-    ];
+    pub const SINGLE_HEADER: [u8; 16] = *b"\x96\x02\x80\x16\x80\x00\x00\0\0\0\0\0\0\0\0\0";
 
-    pub const DOUBLE_HEADER: [u8; 16] = [
-        0x96,
-        0x02,
-        0xE8,
-        0x2C,
-        0x00,
-        0x01,
-        0x00,
-        0,
-        0,
-        0,
-        0,
-        0,
-        0,
-        0,
-        0,
-        0,
-    ];
+    pub const DOUBLE_HEADER: [u8; 16] = *b"\x96\x02\xE8\x2C\x00\x01\x00\0\0\0\0\0\0\0\0\0";
 }

@@ -2,16 +2,16 @@
 use mathlib.Core.Bool.{Bool, true, false, _&&_}
 use mathlib.Core.List.{List, [], _∷_}
 use mathlib.Core.Logic.{_≢_}
-use mathlib.Core.Path.{_≡_, refl, ap, _∙_}
+use mathlib.Core.Path.{_≡_, refl, ap}
 use Prim.Native.Nat.{ℕ}
 use lib.ListN.{length}
 use borrow.Author.Tests.{ne-eqb}
 use Rattle.layout.specs.declared.Served.the-variants.{As, Not}
 use Rattle.layout.specs.Basics.{check, allBelow}
-use Rattle.layout.specs.Image.{raw, atrSingle, atrDouble}
+use Rattle.layout.specs.Image.{singleDensity, doubleDensity, raw, atrSingle, atrDouble}
 use Rattle.layout.specs.Header.{units, headerByte, sameHeader, agrees, servedAtr, servedAs}
-use Rattle.layout.proofs.Header.{isRaw, isSingle, isDouble, kind-served}
-use Rattle.media.specs.Same.{sameAt}
+use Rattle.layout.proofs.Header.{isRaw, kind-served}
+use Rattle.media.specs.Same.{sameAt, servedBy}
 
 abbrev pub singleHeader : List ℕ
 singleHeader = 0x96 ∷ 0x02 ∷ 0x80 ∷ 0x16 ∷ 0x80 ∷ 0 ∷ 0 ∷ 0 ∷ 0 ∷ 0 ∷ 0 ∷ 0 ∷ 0 ∷ 0 ∷ 0 ∷ 0 ∷ []
@@ -40,19 +40,13 @@ module _ (l : List ℕ) where
   pub is-raw : length l ≡ 92160 → servedAs l ≡ As raw
   is-raw n = kind-served l raw (isRaw refl n)
 
-  pub is-single : length l ≡ 92176 → allBelow 7 (sameAt singleHeader l) ≡ true → servedAs l ≡ As atrSingle
-  is-single n a = kind-served l atrSingle (isSingle refl n (single-same ∙ a))
+  pub is-single : length l ≡ 92176 → servedAs l ≡ servedBy singleHeader singleDensity l
+  unfolding servedAs servedAtr servedBy check
+  is-single n = rw (n, single-same)
 
-  pub is-double : length l ≡ 183952 → allBelow 7 (sameAt doubleHeader l) ≡ true → servedAs l ≡ As atrDouble
-  is-double n a = kind-served l atrDouble (isDouble refl n (double-same ∙ a))
-
-  pub not-single : length l ≡ 92176 → allBelow 7 (sameAt singleHeader l) ≡ false → servedAs l ≡ Not 205
-  unfolding servedAs servedAtr check
-  not-single n a = let e : agrees atrSingle l ≡ false = single-same ∙ a in rw (n, e)
-
-  pub not-double : length l ≡ 183952 → allBelow 7 (sameAt doubleHeader l) ≡ false → servedAs l ≡ Not 205
-  unfolding servedAs servedAtr check
-  not-double n a = let e : agrees atrDouble l ≡ false = double-same ∙ a in rw (n, e)
+  pub is-double : length l ≡ 183952 → servedAs l ≡ servedBy doubleHeader doubleDensity l
+  unfolding servedAs servedAtr servedBy check
+  is-double n = rw (n, double-same)
 
   pub no-length : length l ≢ 92160 → length l ≢ 92176 → length l ≢ 183952 → servedAs l ≡ Not 203
   unfolding servedAs check

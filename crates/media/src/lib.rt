@@ -8,7 +8,7 @@ ghost use Prim.Native.Nat.{_≤_, _<_};
 ghost use lib.ListN.{length};
 ghost use Rattle.layout.specs.Basics.{allBelow};
 ghost use Rattle.layout.specs.Header.{servedAs, TellsServed};
-ghost use Rattle.media.specs.Same.{sameAt};
+ghost use Rattle.media.specs.Same.{sameAt, servedBy};
 
 // Byte j is that of a header.
 fn same_at(header: [u8; 16], image: &[u8], j: usize) -> bool
@@ -31,6 +31,20 @@ fn agrees(header: [u8; 16], image: &[u8]) -> bool
                         & (same_at(header, image, 1) & same_at(header, image, 0))))))
 }
 
+// An ATR of this length and density, by its header.
+fn served_atr(header: [u8; 16], density: Density, image: &[u8]) -> Served
+    requires { ⌜ 16 ≤ length (now image) ⌝ }
+    ensures { λ r. ⌜ r ≡ servedBy header density (now (image .entry)) ⌝ }
+{
+    if !agrees(header, image) {
+        return Served::Not(status::BAD_HEADER);
+    }
+    Served::As(Medium {
+        header: Medium::HEADER,
+        density,
+    })
+}
+
 // What an image is served as.
 pub fn served_as(image: &[u8]) -> Served
     ensures { λ r. ⌜ TellsServed (servedAs (now (image .entry))) r ⌝ }
@@ -41,24 +55,10 @@ pub fn served_as(image: &[u8]) -> Served
         return Served::As(Medium { header: 0, density });
     }
     if n == Medium::SINGLE_ATR_BYTES {
-        if !agrees(Medium::SINGLE_HEADER, image) {
-            return Served::Not(status::BAD_HEADER);
-        }
-        let density = Density::single();
-        return Served::As(Medium {
-            header: Medium::HEADER,
-            density,
-        });
+        return served_atr(Medium::SINGLE_HEADER, Density::single(), image);
     }
     if n == Medium::DOUBLE_ATR_BYTES {
-        if !agrees(Medium::DOUBLE_HEADER, image) {
-            return Served::Not(status::BAD_HEADER);
-        }
-        let density = Density::double();
-        return Served::As(Medium {
-            header: Medium::HEADER,
-            density,
-        });
+        return served_atr(Medium::DOUBLE_HEADER, Density::double(), image);
     }
     Served::Not(status::BAD_IMAGE)
 }

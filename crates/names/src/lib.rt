@@ -15,6 +15,7 @@ ghost use Prim.Native.Nat.{_+_, _≤_, _<_};
 ghost use lib.ListN.{length};
 ghost use Rattle.layout.specs.Names.{hasDevice, hasUnit, body, nameEnd, wholeEnd, wellFormed, padded, asWord, nameByte, nameAt, readAs, readName, oldName, newName, readDevice, nameStatus, TellsName};
 ghost use Rattle.chars.specs.Ends.{endsBy};
+ghost use Rattle.names.specs.Device.{deviceStatus};
 
 // `D`, an optional digit, and a colon.
 fn has_device(text: &[u8]) -> bool
@@ -120,15 +121,26 @@ fn name_at(by_comma: bool, text: &[u8], i: usize) -> Name
     }
 }
 
+// Device and unit: 130, 160, or 1.
+fn device_status(text: &[u8]) -> u8
+    ensures { λ r. ⌜ r ≡ deviceStatus (now (text .entry)) ⌝ }
+{
+    if !has_device(text) {
+        return BAD_DEVICE;
+    }
+    if !has_unit(text) {
+        return BAD_UNIT;
+    }
+    SUCCESS
+}
+
 // Device, unit and name.
 fn read_as(by_comma: bool, text: &[u8]) -> Name
     ensures { λ r. ⌜ r ≡ readAs (endsBy «by_comma») (now (text .entry)) ⌝ }
 {
-    if !has_device(text) {
-        return Name::Refused(BAD_DEVICE);
-    }
-    if !has_unit(text) {
-        return Name::Refused(BAD_UNIT);
+    let n = device_status(text);
+    if n != SUCCESS {
+        return Name::Refused(n);
     }
     name_at(by_comma, text, body(text))
 }
@@ -160,11 +172,9 @@ pub fn new_name(text: &[u8]) -> Name
 pub fn read_device(text: &[u8]) -> u8
     ensures { λ r. ⌜ r ≡ readDevice (now (text .entry)) ⌝ }
 {
-    if !has_device(text) {
-        return BAD_DEVICE;
-    }
-    if !has_unit(text) {
-        return BAD_UNIT;
+    let n = device_status(text);
+    if n != SUCCESS {
+        return n;
     }
     if !ending(char(text, body(text))) {
         return BAD_NAME;

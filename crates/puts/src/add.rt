@@ -30,6 +30,13 @@ ghost use Rattle.puts.specs.Run.{addRun, chained, settled, settledFrom};
 ghost use Rattle.puts.specs.Come.{Puts};
 ghost use Rattle.puts.specs.Searched.{Searched, HasRoom};
 
+// How far bytes have been added: the last sector, how many of them, and the sector from which the next search goes on.
+struct Reached {
+    sector: u16,
+    count: usize,
+    from: u16,
+}
+
 // A sector with room, or 0, and the sector from which the next search goes on.
 struct Spot {
     sector: u16,
@@ -80,89 +87,49 @@ fn chain(m: Medium, image: &mut [u8], slot: u16, prev: u16, sector: u16, bytes: 
     write_run(m, image, sector, 0, bytes);
 }
 
-// The sector after `prev` on the disk, chained and filled. The sectors behind `last` up to `prev` hold the bytes of the buffer from `from` on, and it gets the next ones. Where those begin is worked
-// out from the sector alone, so that a loop over it counts only one number.
-fn chain_next(
-    m: Medium,
-    image: &mut [u8],
-    slot: u16,
-    last: u16,
-    prev: u16,
-    buffer: &[u8],
-    from: usize,
-)
-    requires { ⌜ Whole m (now image) × (slot < 64) × (4 ≤ last) × (last ≤ prev) × (prev < 719) × (from + (prev - last + 1) * m .density .room ≤ length (now buffer)) ⌝ }
-    ensures { λ _. ⌜ view (geometryOf m) (now (image .exit)) ≡ chained (geometryOf m) (view (geometryOf m) (now (image .entry))) slot prev (prev + 1) (take (m .density .room) (drop (from + (prev - last) * m .density .room) (now (buffer .entry)))) ⌝ }
+// The sector after `prev` on the disk, chained and filled. The sectors behind the one that was reached up to `prev` hold the bytes of the buffer from there on, and it gets the next ones. Where those
+// begin is worked out from the sector alone, so that a loop over it counts only one number.
+fn chain_next(m: Medium, image: &mut [u8], slot: u16, w: Reached, prev: u16, buffer: &[u8])
+    requires { ⌜ Whole m (now image) × (slot < 64) × (4 ≤ w .sector) × (w .sector ≤ prev) × (prev < 719) × (w .count + (prev - w .sector + 1) * m .density .room ≤ length (now buffer)) ⌝ }
+    ensures { λ _. ⌜ view (geometryOf m) (now (image .exit)) ≡ chained (geometryOf m) (view (geometryOf m) (now (image .entry))) slot prev (prev + 1) (take (m .density .room) (drop (w .count + (prev - w .sector) * m .density .room) (now (buffer .entry)))) ⌝ }
 {
     let room = m.density.room;
-    let byte = from + (prev - last) as usize * room;
+    let byte = w.count + (prev - w.sector) as usize * room;
     let end = byte + room;
     chain(m, image, slot, prev, prev + 1, &buffer[byte..end]);
 }
 
 // The same, with the numbers of each density as constants. A loop over it is then made once for each of them, with constant steps.
-fn chain_after(
-    m: Medium,
-    image: &mut [u8],
-    slot: u16,
-    last: u16,
-    prev: u16,
-    buffer: &[u8],
-    from: usize,
-)
-    requires { ⌜ Whole m (now image) × (slot < 64) × (4 ≤ last) × (last ≤ prev) × (prev < 719) × (from + (prev - last + 1) * m .density .room ≤ length (now buffer)) ⌝ }
-    ensures { λ _. ⌜ view (geometryOf m) (now (image .exit)) ≡ chained (geometryOf m) (view (geometryOf m) (now (image .entry))) slot prev (prev + 1) (take (m .density .room) (drop (from + (prev - last) * m .density .room) (now (buffer .entry)))) ⌝ }
+fn chain_after(m: Medium, image: &mut [u8], slot: u16, w: Reached, prev: u16, buffer: &[u8])
+    requires { ⌜ Whole m (now image) × (slot < 64) × (4 ≤ w .sector) × (w .sector ≤ prev) × (prev < 719) × (w .count + (prev - w .sector + 1) * m .density .room ≤ length (now buffer)) ⌝ }
+    ensures { λ _. ⌜ view (geometryOf m) (now (image .exit)) ≡ chained (geometryOf m) (view (geometryOf m) (now (image .entry))) slot prev (prev + 1) (take (m .density .room) (drop (w .count + (prev - w .sector) * m .density .room) (now (buffer .entry)))) ⌝ }
 {
     let header = m.header;
     if m.density.size == Density::SINGLE_SIZE {
         let density = Density::single();
-        chain_next(
-            Medium { header, density },
-            image,
-            slot,
-            last,
-            prev,
-            buffer,
-            from,
-        );
+        chain_next(Medium { header, density }, image, slot, w, prev, buffer);
     } else if m.density.size == Density::DOUBLE_SIZE {
         let density = Density::double();
-        chain_next(
-            Medium { header, density },
-            image,
-            slot,
-            last,
-            prev,
-            buffer,
-            from,
-        );
+        chain_next(Medium { header, density }, image, slot, w, prev, buffer);
     } else {
-        chain_next(m, image, slot, last, prev, buffer, from);
+        chain_next(m, image, slot, w, prev, buffer);
     }
 }
 
 // Full sectors chained behind a full one that was given out last, up to sector `end`, as long as the sector after it on the disk is free: then that is the lowest, and no search waits for the map
 // byte that the last one changed. The last of them, or the full one.
-fn chain_free(
-    m: Medium,
-    image: &mut [u8],
-    slot: u16,
-    last: u16,
-    end: u16,
-    buffer: &[u8],
-    from: usize,
-) -> u16
-    requires { ⌜ Whole m (now image) × (slot < 64) × (dataSector last ≡ true) × (last ≤ end) × (end ≤ 719) × (from + (end - last) * m .density .room ≤ length (now buffer)) × (m .density .room ≤ inUse (geometryOf m) (view (geometryOf m) (now image) last)) × Searched (view (geometryOf m) (now image) 360) (last + 1) ⌝ }
-    ensures { λ r. ⌜ (last ≤ r) × (dataSector r ≡ true) × Searched (settledFrom (geometryOf m) (view (geometryOf m) (now (image .exit))) slot last r 360) (r + 1)
-        × Puts (geometryOf m) slot (now (buffer .entry)) (view (geometryOf m) (now (image .entry))) last from (settledFrom (geometryOf m) (view (geometryOf m) (now (image .exit))) slot last r) r (from + (r - last) * m .density .room) ⌝ }
+fn chain_free(m: Medium, image: &mut [u8], slot: u16, w: Reached, end: u16, buffer: &[u8]) -> u16
+    requires { ⌜ Whole m (now image) × (slot < 64) × (dataSector (w .sector) ≡ true) × (w .sector ≤ end) × (end ≤ 719) × (w .count + (end - w .sector) * m .density .room ≤ length (now buffer)) × (m .density .room ≤ inUse (geometryOf m) (view (geometryOf m) (now image) (w .sector))) × Searched (view (geometryOf m) (now image) 360) (w .sector + 1) ⌝ }
+    ensures { λ r. ⌜ (w .sector ≤ r) × (dataSector r ≡ true) × Searched (settledFrom (geometryOf m) (view (geometryOf m) (now (image .exit))) slot (w .sector) r 360) (r + 1)
+        × Puts (geometryOf m) slot (now (buffer .entry)) (view (geometryOf m) (now (image .entry))) (w .sector) (w .count) (settledFrom (geometryOf m) (view (geometryOf m) (now (image .exit))) slot (w .sector) r) r (w .count + (r - w .sector) * m .density .room) ⌝ }
 {
-    let mut p = last;
+    let mut p = w.sector;
     while p < end {
         let k = p + 1;
         if !is_free(m, image, k) {
             return p;
         }
-        chain_after(m, image, slot, last, p, buffer, from);
+        chain_after(m, image, slot, w, p, buffer);
         p = k;
     }
     p
@@ -192,57 +159,36 @@ fn settle(m: Medium, image: &mut [u8], slot: u16, last: u16, n: u16)
     write_free_count(m, image, less(had, n));
 }
 
-// How far bytes have been added: the last sector, how many of them, and the sector from which the next search goes on.
-struct Reached {
-    sector: u16,
-    count: usize,
-    from: u16,
-}
-
-// It, from its parts.
-fn come_to(sector: u16, count: usize, from: u16) -> Reached
-    ensures { λ r. ⌜ r ≡ record { sector = sector; count = count; from = from } ⌝ }
-{
-    Reached {
-        sector,
-        count,
-        from,
-    }
-}
-
 // Full sectors added behind the one that was given out last, where that is full too.
-fn put_whole(
-    m: Medium,
-    image: &mut [u8],
-    slot: u16,
-    last: u16,
-    buffer: &[u8],
-    at: usize,
-    from: u16,
-) -> Reached
-    requires { ⌜ Whole m (now image) × (slot < 64) × (dataSector last ≡ true) × (at ≤ length (now buffer)) × Searched (view (geometryOf m) (now image) 360) from ⌝ }
+fn put_whole(m: Medium, image: &mut [u8], slot: u16, w: Reached, buffer: &[u8]) -> Reached
+    requires { ⌜ Whole m (now image) × (slot < 64) × (dataSector (w .sector) ≡ true) × (w .count ≤ length (now buffer)) × Searched (view (geometryOf m) (now image) 360) (w .from) ⌝ }
     ensures { λ r. ⌜ (dataSector (r .sector) ≡ true) × Searched (view (geometryOf m) (now (image .exit)) 360) (r .from)
-        × Puts (geometryOf m) slot (now (buffer .entry)) (view (geometryOf m) (now (image .entry))) last at (view (geometryOf m) (now (image .exit))) (r .sector) (r .count) ⌝ }
+        × Puts (geometryOf m) slot (now (buffer .entry)) (view (geometryOf m) (now (image .entry))) (w .sector) (w .count) (view (geometryOf m) (now (image .exit))) (r .sector) (r .count) ⌝ }
 {
     let room = m.density.room;
-    if from != last + 1 {
-        return come_to(last, at, from);
+    let last = w.sector;
+    if w.from != last + 1 {
+        return w;
     }
     if (in_use(m, image, last) as usize) < room {
-        return come_to(last, at, from);
+        return w;
     }
-    let rest = buffer.len() - at;
+    let rest = buffer.len() - w.count;
     if rest < room {
-        return come_to(last, at, from);
+        return w;
     }
     let end = last_within(last, rest / room);
-    let p = chain_free(m, image, slot, last, end, buffer, at);
+    let p = chain_free(m, image, slot, w, end, buffer);
     if p == last {
-        return come_to(last, at, from);
+        return w;
     }
     let n = p - last;
     settle(m, image, slot, p, n);
-    come_to(p, at + n as usize * room, p + 1)
+    Reached {
+        sector: p,
+        count: w.count + n as usize * room,
+        from: p + 1,
+    }
 }
 
 // What adding bytes leaves.
@@ -263,24 +209,29 @@ fn put_from(m: Medium, image: &mut [u8], slot: u16, last: u16, buffer: &[u8]) ->
         × (view (geometryOf m) (now (image .exit)) ≡ putFrom (geometryOf m) (now (buffer .entry)) (view (geometryOf m) (now (image .entry))) slot last 0 .disk) ⌝ }
 {
     let most = m.density.room;
-    let mut p = last;
-    let mut i: usize = 0;
-    let mut from: u16 = 0;
-    while i < buffer.len() {
-        let spot = room(m, image, slot, p, from);
+    let mut w = Reached {
+        sector: last,
+        count: 0,
+        from: 0,
+    };
+    while w.count < buffer.len() {
+        let i = w.count;
+        let spot = room(m, image, slot, w.sector, w.from);
         let k = spot.sector;
         if k == 0 {
-            return added(status::DISK_FULL, i, p);
+            return added(status::DISK_FULL, i, w.sector);
         }
         let n = in_use(m, image, k) as usize;
         let e = i + least(most - n, buffer.len() - i);
         add_run(m, image, k, &buffer[i..e]);
-        let w = put_whole(m, image, slot, k, buffer, e, spot.from);
-        from = w.from;
-        p = w.sector;
-        i = w.count;
+        let here = Reached {
+            sector: k,
+            count: e,
+            from: spot.from,
+        };
+        w = put_whole(m, image, slot, here, buffer);
     }
-    added(status::SUCCESS, i, p)
+    added(status::SUCCESS, w.count, w.sector)
 }
 
 // The same, where the last sector is full and one more has room for all bytes.

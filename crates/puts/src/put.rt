@@ -8,6 +8,7 @@ use layout::State;
 use layout::density::Medium;
 use layout::status;
 use rules::Advanced;
+use rules::answers::refused;
 use volume::table::table_good;
 ghost use mathlib.Core.Path.{_≡_};
 ghost use Rattle.layout.specs.Image.{Whole, geometryOf, view};
@@ -66,21 +67,13 @@ pub fn put_on(m: Medium, image: &mut [u8], st: State, buffer: &[u8]) -> Advanced
         × (view (geometryOf m) (now (image .exit)) ≡ putOn (geometryOf m) (view (geometryOf m) (now (image .entry))) st (now (buffer .entry)) .disk) ⌝ }
 {
     match st {
-        State::Closed => Advanced {
-            status: status::CHANNEL_CLOSED,
-            count: 0,
-            state: st,
-        },
+        State::Closed => refused(status::CHANNEL_CLOSED, st),
         State::Reading {
             slot: _,
             sector: _,
             offset: _,
             left: _,
-        } => Advanced {
-            status: status::READ_ONLY,
-            count: 0,
-            state: st,
-        },
+        } => refused(status::READ_ONLY, st),
         State::Writing { slot, last } => put_writing(m, image, slot, last, buffer),
     }
 }

@@ -25,13 +25,13 @@ use Rattle.layout.specs.Directory.{flag, count, name, writeFlag, writeName, loc
 use Rattle.layout.specs.File.{clean, cleanFree, chain, delete, restore}
 use Rattle.layout.specs.Channels.{stateOf, withState, openAt, anyOpen, held, newSlot}
 use Rattle.layout.specs.Names.{nameByte, readName, oldName, newName, legal}
-use Rattle.layout.specs.Status.{success, channelClosed, writeOnly, readOnly, badTable, badChain}
+use Rattle.layout.specs.Status.{success, channelClosed, writeOnly, badTable, badChain}
 use Rattle.rules.specs.Get.{Reads, place, readable, getFrom, gets, GetOutcome, getKeeps}
 use Rattle.rules.specs.Put.{Adds, writable, putFrom, puts, PutOutcome, putKeeps}
 use Rattle.rules.specs.Commands.{Effect, effect, refused, done, rewritten, made}
 use Rattle.rules.specs.Cio.{Outcome, outcome, commandOf, Asks}
 use Rattle.rules.specs.Recovery.{recoverable, recovered}
-use Rattle.rules.specs.Demand1.{answers, recoveryAnswers}
+use Rattle.rules.specs.Demand1.{putAnswers, answers, recoveryAnswers}
 use Rattle.rules.specs.Lists.{Call, cioOf, recoveryOf, recovering}
 
 -- a refusal's number that tells nothing of the table or of a chain: neither 1 nor 163 nor 164
@@ -80,12 +80,15 @@ module _ (g : Geometry) (d : Disk) where
     get-none : (s k o l : ℕ) → length b ≡ 0 → GetEnds b (Reading s k o l) (getKeeps success (Reading s k o l) b)
     get-some : (s k o l : ℕ) → length b ≢ 0 → readable g d s k o ≡ true → GetEnds b (Reading s k o l) (gets s (getFrom g d s (length b) 0 (place k o l) b))
 
-  -- a put on one channel: one that does not write; a table that is not good; a file that cannot be added to; no bytes to add; bytes added
+  -- why a put on one channel is refused: 163 and 164 tell which test failed
+  pub data PutWhy : State → ℕ → Type 0 where
+    put-plain : {st : State} (n : ℕ) → plainly n ≡ true → PutWhy st n
+    put-no-table : {st : State} → good (d 360) ≡ false → PutWhy st badTable
+    put-broken : (s p : ℕ) → writable g d s p ≡ false → PutWhy (Writing s p) badChain
+
+  -- a put on one channel: a refusal; no bytes to add; bytes added
   pub data PutEnds (b : List ℕ) : State → PutOutcome → Type 0 where
-    put-closed : PutEnds b Closed (putKeeps channelClosed d Closed)
-    put-reading : (s k o l : ℕ) → PutEnds b (Reading s k o l) (putKeeps readOnly d (Reading s k o l))
-    put-no-table : (s p : ℕ) → good (d 360) ≡ false → PutEnds b (Writing s p) (putKeeps badTable d (Writing s p))
-    put-broken : (s p : ℕ) → writable g d s p ≡ false → PutEnds b (Writing s p) (putKeeps badChain d (Writing s p))
+    put-refuses : (st : State) (n : ℕ) → PutWhy st n → member n putAnswers ≡ true → PutEnds b st (putKeeps n d st)
     put-none : (s p : ℕ) → length b ≡ 0 → PutEnds b (Writing s p) (putKeeps success d (Writing s p))
     put-some : (s p : ℕ) → length b ≢ 0 → good (d 360) ≡ true → writable g d s p ≡ true → PutEnds b (Writing s p) (puts s (putFrom g b d s p 0))
 

@@ -3,7 +3,7 @@ use mathlib.Core.Bool.{true}
 use mathlib.Core.Path.{_≡_, ap, _∙_}
 use mathlib.Core.List.{List}
 use Prim.Native.Nat.{ℕ}
-use lib.Dec.{leb, eqb}
+use lib.Dec.{leb}
 use borrow.Author.Tests.{lt-leb}
 use Rattle.layout.specs.declared.State.{State}
 use Rattle.layout.specs.declared.State.the-variants.{Closed, Reading}
@@ -14,15 +14,15 @@ use Rattle.rules.specs.declared.Command.{Command}
 use Rattle.rules.specs.declared.Command.the-variants.{Moves}
 use Rattle.layout.specs.Image.{Disk, Geometry}
 use Rattle.layout.specs.Directory.{count, writeFlag, is43}
-use Rattle.layout.specs.Channels.{stateOf, withState, openAt, allOpen}
-use Rattle.layout.proofs.Check.{check-yes, check-no, named-is, found-at}
-use Rattle.layout.proofs.Search.{all-fails}
+use Rattle.layout.specs.Channels.{stateOf, withState}
+use Rattle.layout.proofs.Check.{check-no}
 use Rattle.rules.specs.Get.{getOn}
 use Rattle.rules.specs.Put.{putOn}
-use Rattle.rules.specs.Commands.{Effect, done, putAt, openRead, openCall, closeState, closeCall, fileCommand, onClosed}
+use Rattle.rules.specs.Commands.{Effect, done, putAt, openRead, closeState, closeCall}
 use Rattle.rules.specs.Cio.{Outcome, getAt, transfer, command, cio}
 use Rattle.rules.proofs.Acts.{On, Opens, Closes}
-use Rattle.rules.proofs.Ends.{getLeaves, putLeaves}
+use Rattle.rules.proofs.Aimed.{sought-slot, aimed-slot}
+use Rattle.rules.proofs.Ends.{getLeaves, putLeaves, open-input}
 
 module _ (g : Geometry) (d : Disk) (t : Table) (c : Block) (text b : List ℕ) where
   -- on a channel below 8
@@ -49,12 +49,9 @@ module _ (g : Geometry) (d : Disk) (t : Table) (c : Block) (text b : List ℕ) w
 
   -- an open for input
   pub does-open : (s : ℕ) → Opens g d t c text s → cio g d t c text b .effect ≡ done g d t d (withState t (c .channel) (Reading s 0 0 (count d s)))
-  unfolding command onClosed fileCommand openCall openRead allOpen
+  unfolding command openRead
   does-open s h =
       does-effect (h .ready .on)
-      ∙ check-no {A = Effect} _ _ _ (h .ready .shut)
-      ∙ check-no {A = Effect} _ _ _ (all-fails (openAt t) 8 (c .channel) (h .ready .on .small) (h .ready .shut))
-      ∙ check-yes {A = Effect} (eqb (c .direction) 4) _ _ (rw (h .direction))
-      ∙ named-is {A = Effect} _ _ _ (h .told .read)
-      ∙ found-at {A = Effect} _ _ _ (h .at)
+      ∙ open-input g d t c text b (h .ready) (h .direction)
+      ∙ aimed-slot g d t _ _ (sought-slot d _ (h .told .read) (h .at))
       ∙ check-no {A = Effect} _ _ _ (h .quiet)

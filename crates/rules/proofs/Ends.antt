@@ -26,23 +26,26 @@ use Rattle.rules.specs.declared.Target.{Target}
 use Rattle.rules.specs.declared.Target.the-variants.{Slot, Missing, Denied}
 use Rattle.layout.specs.Basics.{if, check, member}
 use Rattle.layout.specs.Image.{Disk, Geometry}
-use Rattle.layout.specs.Volume.{good, lowest}
-use Rattle.layout.specs.Directory.{found, find, is43}
-use Rattle.layout.specs.Channels.{stateOf, withState}
+use Rattle.layout.specs.Volume.{bitOn, bitOff, good, lowest}
+use Rattle.layout.specs.Directory.{flag, writeFlag, locked, found, find, is43}
+use Rattle.layout.specs.File.{clean}
+use Rattle.layout.specs.Channels.{stateOf, withState, openAt, allOpen, held}
 use Rattle.layout.specs.Names.{wellFormed, nameAt, readAs, body, ending, comma, wholeEnd, named, readName, oldName, newName, readDevice}
-use Rattle.layout.specs.Status.{success, badChannel, badCommand, channelOpen, writeOnly, channelClosed, readOnly, noChannel, notServed, badDevice, badUnit, badName, badTable, notFound, badChain}
+use Rattle.layout.specs.Status.{success, badChannel, badCommand, channelOpen, writeOnly, channelClosed, noChannel, notServed, badDevice, badUnit, badName, badTable, notFound, fileLocked, fileHeld, badChain}
 use Rattle.layout.proofs.Check.{check-yes, check-no, by-check, by-name, by-found}
 use Rattle.layout.proofs.Channels.{with-id}
 use Rattle.layout.proofs.Logic.{and-left, and-right}
 use Rattle.layout.proofs.Members.{member-head}
+use Rattle.layout.proofs.Search.{all-fails}
 use Rattle.rules.specs.Get.{readable, gets, GetOutcome, getOn}
-use Rattle.rules.specs.Put.{writable, puts, PutOutcome, putOn}
-use Rattle.rules.specs.Commands.{Effect, refused, done, putAt, target, both, aimed, openRead, openFound, openNew, openTarget, openWrite, openCall, closeState, closeCall, statusCall, renameAt, renameCall, deleteAt, deleteCall, flagAt, lockCall, unlockCall, formatCall, fileCommand, onClosed}
+use Rattle.rules.specs.Put.{writable, putFrom, puts, PutOutcome, putKeeps, putOn}
+use Rattle.rules.specs.Commands.{Effect, refused, done, putAt, passing, sought, target, mayChange, mayFree, both, aimed, openRead, openFound, openNew, openTarget, openWrite, openCall, closeState, closeCall, statusCall, renameAt, renameCall, deleteAt, deleteCall, flagAt, lockCall, unlockCall, formatCall, fileCommand, onClosed}
 use Rattle.rules.specs.Cio.{Outcome, outcome, getAt, commandOf, Asks, transfer, command, cio}
 use Rattle.rules.specs.Recovery.{Recovered, recovered, recover}
-use Rattle.rules.specs.Demand1.{readAnswers, writeAnswers, openAnswers, statusAnswers, formatAnswers, commandAnswers, answers, recoveryAnswers}
+use Rattle.rules.specs.Demand1.{readAnswers, writeAnswers, openAnswers, statusAnswers, lockAnswers, formatAnswers, commandAnswers, answers, recoveryAnswers}
 use Rattle.rules.specs.Lists.{Call, cioOf, recoveryOf, System, recovering, outcomeOf}
-use Rattle.rules.proofs.Acts.{plainly, Kind, asks, recovers, kindOf, On, Told, bytes, GetEnds, get-closed, get-writing, get-broken, get-none, get-some, PutEnds, put-closed, put-reading, put-no-table, put-broken, put-none, put-some, Why, plain, no-table, no-chain, no-read, no-write, Ready, Aimed, Closes, Ends, refuses, reads, reads-none, writes, writes-none, frees, closes, drops, opens, rewrites, makes, tells, renames, deletes, locks, unlocks, formats, restores}
+use Rattle.rules.proofs.Told.{by-passing, may-change, may-free}
+use Rattle.rules.proofs.Acts.{plainly, Kind, asks, recovers, kindOf, On, Told, bytes, GetEnds, get-closed, get-writing, get-broken, get-none, get-some, PutWhy, put-plain, put-no-table, put-broken, PutEnds, put-refuses, put-none, put-some, Why, plain, no-table, no-chain, no-read, no-write, Ready, Aimed, Flags, Closes, Ends, refuses, reads, reads-none, writes, writes-none, frees, closes, drops, opens, rewrites, makes, tells, renames, deletes, locks, unlocks, formats, restores}
 
 -- a refusal is not 1
 pub why-not-one : {g : Geometry} {d : Disk} {t : Table} {k : Kind} {n : ℕ} → Why g d t k n → n ≢ success
@@ -101,14 +104,24 @@ module _ (g : Geometry) (d : Disk) where
       get-some s k o l (eqb-false (length b) 0 n) (not-false (readable g d s k o) r)
 
   pub put-ends : (st : State) (b : List ℕ) → PutEnds g d b st (putOn g d st b)
-  unfolding putOn
-  put-ends Closed b = put-closed
-  put-ends (Reading s k o l) b = put-reading s k o l
+  unfolding putOn member
+  put-ends Closed b = put-refuses Closed _ (put-plain _ refl) refl
+  put-ends (Reading s k o l) b = put-refuses (Reading s k o l) _ (put-plain _ refl) refl
   put-ends (Writing s p) b =
       by-check (PutEnds g d b (Writing s p)) _ _ _ (λ n. put-none s p (eqb-true (length b) 0 n)) λ n.
-      by-check (PutEnds g d b (Writing s p)) _ _ _ (λ v. put-no-table s p (not-true (good (d 360)) v)) λ v.
-      by-check (PutEnds g d b (Writing s p)) _ _ _ (λ w. put-broken s p (not-true (writable g d s p) w)) λ w.
+      by-check (PutEnds g d b (Writing s p)) _ _ _ (λ v. put-refuses _ _ (put-no-table (not-true (good (d 360)) v)) refl) λ v.
+      by-check (PutEnds g d b (Writing s p)) _ _ _ (λ w. put-refuses _ _ (put-broken s p (not-true (writable g d s p) w)) refl) λ w.
       put-some s p (eqb-false (length b) 0 n) (not-false (good (d 360)) v) (not-false (writable g d s p) w)
+
+  -- a put on a writing channel that passes the checks adds the bytes, if there are any
+  pub put-passes : (P : PutOutcome → Type 0) (s p : ℕ) (b : List ℕ) → good (d 360) ≡ true → writable g d s p ≡ true
+      → (length b ≡ 0 → P (putKeeps success d (Writing s p))) → (length b ≢ 0 → P (puts s (putFrom g b d s p 0))) → P (putOn g d (Writing s p) b)
+  unfolding putOn
+  put-passes P s p b v w none some =
+      by-check P _ _ _ (λ n. none (eqb-true (length b) 0 n)) λ n.
+      by-check P _ _ _ (λ q. absurd (true≢false (sym v ∙ not-true (good (d 360)) q))) λ _.
+      by-check P _ _ _ (λ q. absurd (true≢false (sym w ∙ not-true (writable g d s p) q))) λ _.
+      some (eqb-false (length b) 0 n)
 
 -- a table of checks whose refusals have their numbers among l: what P says holds of each of them
 record Rows {A : Type 0} (g : Geometry) (d : Disk) (t : Table) (k : Kind) (P : A → Type 0) (refusal : ℕ → A) (l : List ℕ) : Type 0 where
@@ -140,6 +153,26 @@ module _ {A : Type 0} {g : Geometry} {d : Disk} {t : Table} {k : Kind} {P : A �
   found-row : {f : Found} (n : ℕ) (rest : ℕ → A) → Plain l n → ((s : ℕ) → f ≡ At s → P (rest s)) → P (found f (refusal n) rest)
   found-row {f = f} n rest p q = by-found P f _ rest (λ _. refuse-plain n p) q
 
+  -- 167 and 200, where a file is to be changed
+  module _ (s : ℕ) (rest : Unit {0} → A) (p : Plain l fileLocked) (q : Plain l fileHeld) where
+    abbrev Refuses : ℕ → Type 0
+    Refuses n = n ≢ success → P (refusal n)
+
+    kept : Refuses (mayChange d t s)
+    unfolding mayChange
+    kept = by-check Refuses _ _ _ (λ _ _. refuse-plain fileLocked p) λ _. by-check Refuses _ _ _ (λ _ _. refuse-plain fileHeld q) λ _ h. absurd (h refl)
+
+    change-row : (locked (flag d s) ≡ false → held d t s ≡ false → P (rest tt)) → P (passing (mayChange d t s) refusal rest)
+    change-row r = by-passing P _ refusal rest kept λ e. let f = may-change d t s e in r (f .0) (f .1)
+
+    -- and 164, where its chain is to be freed
+    free-row : (clean g d s ≡ false → Why g d t k badChain) → member badChain l ≡ true → (locked (flag d s) ≡ false → held d t s ≡ false → clean g d s ≡ true → P (rest tt)) → P (passing (mayFree g d t s) refusal rest)
+    unfolding mayFree
+    free-row y m r =
+        by-passing P _ refusal rest
+        (by-passing Refuses _ _ _ (λ h _. kept h) λ _. by-check Refuses _ _ _ (λ e _. w .refusing badChain (y (not-true (clean g d s) e)) m) λ _ h. absurd (h refl))
+        λ e. let f = may-free d t s g e in let h = may-change d t s (f .0) in r (h .0) (h .1) (f .1)
+
   -- a name that could not be read
   module _ (m : Names l) where
     abbrev device-in : member badDevice l ≡ true
@@ -157,32 +190,45 @@ module _ {A : Type 0} {g : Geometry} {d : Disk} {t : Table} {k : Kind} {P : A �
     at-plain : (ends : ℕ → Bool) (text : List ℕ) (i n : ℕ) → nameAt ends text i ≡ Refused n → Plain l n
     at-plain ends text i n = by-name-at (Plain l) device-in unit-in name-in ends text i n
 
--- the file that a command is to change
+-- the file of a name
 module _ {g : Geometry} {d : Disk} {t : Table} {k : Kind} where
+  sought-row : {l : List ℕ} {P : Target → Type 0} → Rows g d t k P Denied l → (x : Name) → ((n : ℕ) → x ≡ Refused n → Plain l n)
+      → ((r : Told x) → find d (bytes r) ≡ Nothing → P (Missing (r .word) (r .extension))) → ((r : Told x) (s : ℕ) → find d (bytes r) ≡ At s → P (Slot s)) → P (sought d x)
+  unfolding sought
+  sought-row w (Refused n) p q r = refuse-plain w n (p n refl)
+  sought-row {P = P} w (Is word extension) p q r =
+      let told : Told (Is word extension) = record { word = word; extension = extension; read = refl } in
+      by-found P _ _ _ (q told) (r told)
+
+  -- and one that a command is to change
   target-row : {l : List ℕ} {P : Target → Type 0} → Rows g d t k P Denied l → (x : Name) → ((n : ℕ) → x ≡ Refused n → Plain l n) → member badTable l ≡ true
       → ((r : Told x) → good (d 360) ≡ true → find d (bytes r) ≡ Nothing → P (Missing (r .word) (r .extension))) → ((s : ℕ) → Aimed g d t x s → P (Slot s)) → P (target d x)
   unfolding target
   target-row w (Refused n) p m q r = refuse-plain w n (p n refl)
-  target-row {P = P} w (Is a e) p m q r =
-      let told : Told (Is a e) = record { word = a; extension = e; read = refl } in
+  target-row w (Is word extension) p m q r =
       row-why w _ no-table m λ v.
-      by-found P _ _ _ (q told v) λ s f.
-      r s (record { told = told; table = v; at = f })
+      sought-row w (Is word extension) p (λ n f. q n v f) λ n s f.
+      r s (record { told = n; table = v; at = f })
 
-  -- and is to be there
-  aimed-row : {l : List ℕ} {P : Effect → Type 0} → Rows g d t k P (λ n. refused n d t) l → (x : Name) (act : ℕ → Effect) → ((n : ℕ) → x ≡ Refused n → Plain l n) → (member badTable l && member notFound l) ≡ true
-      → ((s : ℕ) → Aimed g d t x s → P (act s)) → P (aimed g d t (target d x) act)
-  unfolding aimed
-  aimed-row {l = l} {P = P} w x act p m r =
-      let v : Rows g d t k (λ a. P (aimed g d t a act)) Denied l = record { refusing = w .refusing } in
-      target-row v x p (and-left (member badTable l) (member notFound l) m) (λ _ _ _. refuse-plain w _ (and-right (member badTable l) (member notFound l) m)) r
+  -- where it is to be there
+  module _ {l : List ℕ} {P : Effect → Type 0} (w : Rows g d t k P (λ n. refused n d t) l) (x : Name) (act : ℕ → Effect) (p : (n : ℕ) → x ≡ Refused n → Plain l n) (m : Plain l notFound) where
+    on-slot : Rows g d t k (λ a. P (aimed g d t a act)) Denied l
+    unfolding aimed
+    on-slot = record { refusing = w .refusing }
+
+    seen-row : ((r : Told x) (s : ℕ) → find d (bytes r) ≡ At s → P (act s)) → P (aimed g d t (sought d x) act)
+    unfolding aimed
+    seen-row r = sought-row on-slot x p (λ _ _. refuse-plain w notFound m) r
+
+    aimed-row : member badTable l ≡ true → ((s : ℕ) → Aimed g d t x s → P (act s)) → P (aimed g d t (target d x) act)
+    unfolding aimed
+    aimed-row n r = target-row on-slot x p n (λ _ _ _. refuse-plain w notFound m) r
 
   -- 13 status, whatever is to be shown of its effect
   status-row : {P : Effect → Type 0} → Rows g d t k P (λ n. refused n d t) statusAnswers → (text : List ℕ) → P (done g d t d t) → P (statusCall g d t text)
   unfolding statusCall readName member
   status-row w text p =
-      name-row w _ (read-plain w refl ending text) λ _.
-      found-row w _ _ refl λ _ _.
+      seen-row w _ _ (read-plain w refl ending text) refl λ _ _ _.
       row w _ _ refl λ _.
       p
 
@@ -283,8 +329,7 @@ module _ (g : Geometry) (d : Disk) (t : Table) (c : Block) (text b : List ℕ) w
   open-read-ends : T (Files Open) readAnswers → Ready g d t c (Files Open) → c .direction ≡ 4 → A (Files Open) (openRead g d t (c .channel) text)
   unfolding openRead readName member
   open-read-ends w r e =
-      name-row w _ (read-plain w refl ending text) λ n.
-      found-row w _ _ refl λ s f.
+      seen-row w _ _ (read-plain w refl ending text) refl λ n s f.
       row w _ _ refl λ q.
       opens s (record { ready = r; direction = e; told = n; at = f; quiet = q })
 
@@ -298,9 +343,7 @@ module _ (g : Geometry) (d : Disk) (t : Table) (c : Block) (text b : List ℕ) w
       row w _ _ refl λ m.
       makes s (record { ready = r; direction = e; told = n; table = y; missing = f; vacant = z; room = eqb-false (lowest (d 360)) 0 m }))
       λ s a.
-      row w _ _ refl λ u.
-      row w _ _ refl λ h.
-      row-why w _ (no-chain _ s (a .at)) refl λ k.
+      free-row w s _ refl refl (no-chain _ s (a .at)) refl λ u h k.
       rewrites s (record { ready = r; direction = e; aim = a; unlocked = u; unheld = h; clear = k })
 
   open-ends : Ready g d t c (Files Open) → A (Files Open) (openCall g d t (c .channel) (c .direction) text)
@@ -311,6 +354,14 @@ module _ (g : Geometry) (d : Disk) (t : Table) (c : Block) (text b : List ℕ) w
       by-check (A (Files Open)) _ _ _ (λ e. open-read-ends (rows (r .on) (open-4 i e)) r (eqb-true i 4 e)) λ e.
       by-check (A (Files Open)) _ _ _ (λ f. open-write-ends (rows (r .on) (open-8 i e f)) r (eqb-true i 8 f)) λ f.
       refuse-plain (rows (r .on) (open-else i e f)) _ refl
+
+  -- an open for input, on a closed channel, goes on with its name
+  pub open-input : Ready g d t c (Files Open) → c .direction ≡ 4 → onClosed g d t c text Open ≡ openRead g d t (c .channel) text
+  unfolding onClosed fileCommand openCall allOpen
+  open-input r e =
+      check-no {A = Effect} _ _ _ (r .shut)
+      ∙ check-no {A = Effect} _ _ _ (all-fails (openAt t) 8 (c .channel) (r .on .small) (r .shut))
+      ∙ check-yes {A = Effect} (eqb (c .direction) 4) _ _ (rw e)
 
   -- 13 status
   status-ends : Ready g d t c (Files Status) → A (Files Status) (statusCall g d t text)
@@ -323,10 +374,9 @@ module _ (g : Geometry) (d : Disk) (t : Table) (c : Block) (text b : List ℕ) w
   rename-ends r =
       let w = rows (r .on) refl in
       let new = at-plain w refl ending text (wholeEnd text (body text) + 1) in
-      aimed-row w _ _ (both-refused _ _ _ (read-plain w refl comma text) new) refl λ s a.
+      aimed-row w _ _ (both-refused _ _ _ (read-plain w refl comma text) new) refl refl λ s a.
       name-row w _ new λ n.
-      row w _ _ refl λ u.
-      row w _ _ refl λ h.
+      change-row w s _ refl refl λ u h.
       row w _ _ refl λ k.
       let old : Told (oldName text) = record { word = a .told .word; extension = a .told .extension; read = both-first (oldName text) (newName text) _ _ (a .told .read) } in
       renames s (record { ready = r; aim = record { told = old; table = a .table; at = a .at }; told = n; unlocked = u; unheld = h; alone = k })
@@ -336,28 +386,27 @@ module _ (g : Geometry) (d : Disk) (t : Table) (c : Block) (text b : List ℕ) w
   unfolding deleteCall deleteAt readName commandAnswers member
   delete-ends r =
       let w = rows (r .on) refl in
-      aimed-row w _ _ (read-plain w refl ending text) refl λ s a.
-      row w _ _ refl λ u.
-      row w _ _ refl λ h.
-      row-why w _ (no-chain _ s (a .at)) refl λ k.
+      aimed-row w _ _ (read-plain w refl ending text) refl refl λ s a.
+      free-row w s _ refl refl (no-chain _ s (a .at)) refl λ u h k.
       deletes s (record { ready = r; aim = a; unlocked = u; unheld = h; clear = k })
 
-  -- 35 lock, 36 unlock
-  lock-ends : Ready g d t c (Files Lock) → A (Files Lock) (lockCall g d t text)
-  unfolding lockCall flagAt readName commandAnswers member
-  lock-ends r =
-      let w = rows (r .on) refl in
-      aimed-row w _ _ (read-plain w refl ending text) refl λ s a.
+  -- 35 lock and 36 unlock, by what they make of the flags
+  flag-ends : (k : Command) (change : ℕ → ℕ → ℕ) → Ready g d t c k → commandAnswers (c .direction) k ≡ lockAnswers
+      → ((s : ℕ) → Flags g d t c k text s → A k (done g d t (writeFlag d s (change (flag d s) 5)) t)) → A k (aimed g d t (target d (readName text)) (flagAt g d t change))
+  unfolding flagAt readName member
+  flag-ends k change r e act =
+      let w = rows (r .on) e in
+      aimed-row w _ _ (read-plain w refl ending text) refl refl λ s a.
       row w _ _ refl λ h.
-      locks s (record { ready = r; aim = a; unheld = h })
+      act s (record { ready = r; aim = a; unheld = h })
+
+  lock-ends : Ready g d t c (Files Lock) → A (Files Lock) (lockCall g d t text)
+  unfolding lockCall commandAnswers
+  lock-ends r = flag-ends (Files Lock) bitOn r refl locks
 
   unlock-ends : Ready g d t c (Files Unlock) → A (Files Unlock) (unlockCall g d t text)
-  unfolding unlockCall flagAt readName commandAnswers member
-  unlock-ends r =
-      let w = rows (r .on) refl in
-      aimed-row w _ _ (read-plain w refl ending text) refl λ s a.
-      row w _ _ refl λ h.
-      unlocks s (record { ready = r; aim = a; unheld = h })
+  unfolding unlockCall commandAnswers
+  unlock-ends r = flag-ends (Files Unlock) bitOff r refl unlocks
 
   -- 254 format
   format-ends : Ready g d t c (Files Format) → A (Files Format) (formatCall g d t text)
@@ -365,7 +414,7 @@ module _ (g : Geometry) (d : Disk) (t : Table) (c : Block) (text b : List ℕ) w
   format-ends r =
       let w = rows (r .on) refl in
       let why : readDevice text ≢ success → plainly (readDevice text) ≡ true = by-device (λ n. n ≢ success → plainly n ≡ true) (λ _. refl) (λ _. refl) (λ _. refl) (λ h. absurd (h refl)) text in
-      row-why w _ (λ e. plain _ (why (eqb-false (readDevice text) success e))) (by-device (λ n. member n formatAnswers ≡ true) refl refl refl refl text) λ _.
+      by-passing (A (Files Format)) _ _ _ (λ h. w .refusing _ (plain _ (why h)) (by-device (λ n. member n formatAnswers ≡ true) refl refl refl refl text)) λ _.
       row w _ _ refl λ n.
       formats (record { ready = r; none = n })
 
@@ -408,12 +457,14 @@ module _ (g : Geometry) (d : Disk) (t : Table) (c : Block) (text b : List ℕ) w
   got o e (get-none s k i l n) = rw (with-id t (c .channel) (Reading s k i l) e) (reads-none o n)
   got o e (get-some s k i l n p) = reads s k i l (record { on = o; state = e; wanted = n; passes = p })
 
+  put-why : On c (Moves Put) → {st : State} → stateOf t (c .channel) ≡ st → {n : ℕ} → PutWhy g d st n → Why g d t (asks (Moves Put)) n
+  put-why o e (put-plain n p) = plain n p
+  put-why o e (put-no-table v) = no-table v
+  put-why o e (put-broken s p w) = no-write (c .channel) s p (o .small) e w
+
   put : On c (Moves Put) → {st : State} → stateOf t (c .channel) ≡ st → {r : PutOutcome} → PutEnds g d b st r → A (Moves Put) (putLeaves t (c .channel) r)
   unfolding puts commandAnswers member
-  put o e put-closed = rw (with-id t (c .channel) Closed e) (refuse-plain (rows o refl) channelClosed refl)
-  put o e (put-reading s k i l) = rw (with-id t (c .channel) (Reading s k i l) e) (refuse-plain (rows o refl) readOnly refl)
-  put o e (put-no-table s p v) = rw (with-id t (c .channel) (Writing s p) e) (rows o refl .refusing badTable (no-table v) refl)
-  put o e (put-broken s p w) = rw (with-id t (c .channel) (Writing s p) e) (rows o refl .refusing badChain (no-write (c .channel) s p (o .small) e w) refl)
+  put o e (put-refuses st n w m) = rw (with-id t (c .channel) st e) (rows o refl .refusing n (put-why o e w) m)
   put o e (put-none s p n) = rw (with-id t (c .channel) (Writing s p) e) (writes-none o n)
   put o e (put-some s p n v w) = writes s p (record { on = o; state = e; waiting = n; table = v; passes = w })
 

@@ -1,14 +1,26 @@
--- Where the next byte of a put goes, and the bytes behind it.
+-- Where the next byte of a put goes, what it leaves of the other sectors, and the bytes behind it.
+use mathlib.Core.Bool.{true}
 use mathlib.Core.Logic.{_≢_}
 use mathlib.Core.List.{List, [], _∷_, _++_}
-use mathlib.Core.Path.{_≡_}
+use mathlib.Core.Path.{_≡_, sym}
 use Prim.Native.Nat.{ℕ, _+_, _≤_, _<_}
 use borrow.Author.Tests.{ne-eqb, lt-ltb, le-ltb}
-use Rattle.layout.specs.Image.{Disk, Geometry}
-use Rattle.layout.specs.Volume.{lowest}
+use Rattle.layout.specs.Image.{Disk, Geometry, writeRun}
+use Rattle.layout.specs.Volume.{dataSector, lowest}
 use Rattle.layout.specs.File.{inUse, give}
 use Rattle.layout.specs.Status.{diskFull}
-use Rattle.rules.specs.Put.{Room, roomIn, Adds, adds, roomFor, addByte, putFrom}
+use Rattle.layout.proofs.Data.{data-facts}
+use Rattle.layout.proofs.Give.{added-other}
+use Rattle.rules.specs.Put.{Room, roomIn, adds, roomFor, addByte, putFrom}
+
+-- a byte added changes its sector alone, and in a data sector it leaves the volume table
+module _ (g : Geometry) (d : Disk) (k x : ℕ) where
+  pub add-other : (y : ℕ) → y ≢ k → addByte g d k x y ≡ d y
+  unfolding addByte writeRun
+  add-other = added-other g d k (inUse g (d k)) (x ∷ []) (inUse g (d k) + 1)
+
+  pub add-table : dataSector k ≡ true → addByte g d k x 360 ≡ d 360
+  add-table h = add-other 360 (λ e. data-facts k h .table (sym e))
 
 module _ (g : Geometry) (s : ℕ) where
   -- the last sector has room; no other has; the lowest free one is given out

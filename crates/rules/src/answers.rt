@@ -1,6 +1,8 @@
 // What a call answers, put together.
+use super::Advanced;
 use super::Answer;
 use super::Reply;
+use layout::State;
 use layout::Table;
 ghost use mathlib.Core.Path.{_≡_};
 
@@ -20,4 +22,15 @@ pub fn reply(status: u8, count: usize) -> Reply
     ensures { λ r. ⌜ r ≡ record { status = status; count = count } ⌝ }
 {
     Reply { status, count }
+}
+
+// A get or a put that is refused leaves the channel as it was.
+pub fn refused(status: u8, state: State) -> Advanced
+    ensures { λ r. ⌜ r ≡ record { status = status; count = 0; state = state } ⌝ }
+{
+    Advanced {
+        status,
+        count: 0,
+        state,
+    }
 }

@@ -18,26 +18,7 @@ pub fn write_run(m: Medium, image: &mut [u8], sector: u16, place: usize, from: &
     copy(image, first, from);
 }
 
-// Bytes of the sector that starts at `start`, `n` of them from `place` on, stored in the buffer from `at` on.
-pub fn get_run_at(
-    m: Medium,
-    image: &[u8],
-    sector: u16,
-    start: usize,
-    place: usize,
-    n: usize,
-    buffer: &mut [u8],
-    at: usize,
-)
-    requires { ⌜ Whole m (now image) × (4 ≤ sector) × (sector ≤ 720) × (start ≡ geometryOf m .start sector) × (place + n ≤ geometryOf m .size sector) × (at + n ≤ length (now buffer)) ⌝ }
-    ensures { λ _. ⌜ now (buffer .exit) ≡ sets (now (buffer .entry)) at (valuesFrom (view (geometryOf m) (now (image .entry)) sector) n place) ⌝ }
-{
-    let first = start + place;
-    let end = first + n;
-    copy(buffer, at, &image[first..end]);
-}
-
-// The same of a sector found by its number.
+// Bytes of a sector, `n` of them from `place` on, stored in the buffer from `at` on.
 pub fn get_run(
     m: Medium,
     image: &[u8],
@@ -50,7 +31,18 @@ pub fn get_run(
     requires { ⌜ Whole m (now image) × (4 ≤ sector) × (sector ≤ 720) × (place + n ≤ geometryOf m .size sector) × (at + n ≤ length (now buffer)) ⌝ }
     ensures { λ _. ⌜ now (buffer .exit) ≡ sets (now (buffer .entry)) at (valuesFrom (view (geometryOf m) (now (image .entry)) sector) n place) ⌝ }
 {
-    get_run_at(m, image, sector, start(m, sector), place, n, buffer, at);
+    let first = start(m, sector) + place;
+    let end = first + n;
+    copy(buffer, at, &image[first..end]);
+}
+
+// All data bytes of the sector that starts at `start`.
+pub fn get_data(m: Medium, image: &[u8], sector: u16, start: usize, buffer: &mut [u8], at: usize)
+    requires { ⌜ Whole m (now image) × (4 ≤ sector) × (sector ≤ 720) × (start ≡ geometryOf m .start sector) × (at + m .density .room ≤ length (now buffer)) ⌝ }
+    ensures { λ _. ⌜ now (buffer .exit) ≡ sets (now (buffer .entry)) at (valuesFrom (view (geometryOf m) (now (image .entry)) sector) (m .density .room) 0) ⌝ }
+{
+    let end = start + m.density.room;
+    copy(buffer, at, &image[start..end]);
 }
 
 // The lesser of two numbers: a run ends where the sector's bytes or the buffer's do.

@@ -32,32 +32,42 @@ pub fn shows(image: &[u8], slot: u16, sector: u16) -> bool
     enters(m, image, slot, sector)
 }
 
-// Where the part starts.
-pub fn shown_start(image: &[u8], slot: u16, sector: u16) -> usize
-    ensures { λ r. ⌜ r ≡ shownStart (now (image .entry)) slot sector ⌝ }
+// The part that is shown: where it starts, and how many bytes it has. It is empty and at the image's start where the answer is no.
+struct Part {
+    start: usize,
+    len: usize,
+}
+
+fn shown_part(image: &[u8], slot: u16, sector: u16) -> Part
+    ensures { λ r. ⌜ (r .start ≡ shownStart (now (image .entry)) slot sector) × (r .len ≡ shownLength (now (image .entry)) slot sector) ⌝ }
 {
     let v = served_as(image);
     let Served::As(m) = v else {
-        return 0;
+        return Part { start: 0, len: 0 };
     };
     if !enters(m, image, slot, sector) {
-        return 0;
+        return Part { start: 0, len: 0 };
     }
-    start(m, sector)
+    Part {
+        start: start(m, sector),
+        len: in_use(m, image, sector) as usize,
+    }
+}
+
+// Where it starts.
+pub fn shown_start(image: &[u8], slot: u16, sector: u16) -> usize
+    ensures { λ r. ⌜ r ≡ shownStart (now (image .entry)) slot sector ⌝ }
+{
+    let p = shown_part(image, slot, sector);
+    p.start
 }
 
 // Its length.
 pub fn shown_length(image: &[u8], slot: u16, sector: u16) -> usize
     ensures { λ r. ⌜ r ≡ shownLength (now (image .entry)) slot sector ⌝ }
 {
-    let v = served_as(image);
-    let Served::As(m) = v else {
-        return 0;
-    };
-    if !enters(m, image, slot, sector) {
-        return 0;
-    }
-    in_use(m, image, sector) as usize
+    let p = shown_part(image, slot, sector);
+    p.len
 }
 
 // The part itself, an empty one at the image's start where the answer is no. No copy: it lies in the same memory as the image (`ptr .0`), `shownStart` bytes behind the image's own place there (`ptr .1`).
@@ -68,7 +78,8 @@ pub fn shown(image: &[u8], slot: u16, sector: u16) -> &[u8]
     if !shows(image, slot, sector) {
         return &image[0..0];
     }
-    let start = shown_start(image, slot, sector);
-    let end = start + shown_length(image, slot, sector);
+    let p = shown_part(image, slot, sector);
+    let start = p.start;
+    let end = start + p.len;
     &image[start..end]
 }

@@ -9,7 +9,7 @@ use lib.Dec.{eqb, ltb}
 use lib.ListN.{length}
 use borrow.Author.Tests.{eqb-false}
 use Rattle.layout.specs.declared.State.{State}
-use Rattle.layout.specs.declared.State.the-variants.{Closed, Reading, Writing}
+use Rattle.layout.specs.declared.State.the-variants.{Writing}
 use Rattle.layout.specs.Basics.{if, member}
 use Rattle.layout.specs.Image.{Disk, Geometry}
 use Rattle.layout.specs.Volume.{lowest}
@@ -19,8 +19,8 @@ use Rattle.layout.proofs.Members.{member-left, member-right, member-not}
 use Rattle.layout.proofs.Give.{give-other}
 use Rattle.rules.specs.Put.{Adds, Room, roomIn, roomFor, addByte, putFrom, PutOutcome, putKeeps, puts}
 use Rattle.rules.specs.Demand1.{OnlyEnd}
-use Rattle.rules.proofs.Acts.{PutEnds, put-closed, put-reading, put-no-table, put-broken, put-none, put-some}
-use Rattle.theory.proofs.Sectors.{add-other}
+use Rattle.rules.proofs.Acts.{PutEnds, put-refuses, put-none, put-some}
+use Rattle.rules.proofs.Rooms.{add-other}
 
 -- sector k is none of those that a put to slot s writes before it gives out another: the volume table, the slot's sector of the directory, the file's last sector p
 pub record Beside (s p k : ℕ) : Type 0 where
@@ -89,9 +89,6 @@ module _ (g : Geometry) (d : Disk) where
       record { few = omega arith; idle = o .idle; end = λ x q e k v u l. let (h, i) : (s ≡ x) × (p ≡ q) = (cc, cc) in o .beside k (record { volume = v; slots = rw h u; last = rw i l }) }
 
   pub put-leaves : {st : State} {b : List ℕ} {o : PutOutcome} → PutEnds g d b st o → Leaves st d b o
-  put-leaves {b = b} put-closed = none _ Closed b
-  put-leaves {b = b} (put-reading s k o l) = none _ (Reading s k o l) b
-  put-leaves {b = b} (put-no-table s p q) = none _ (Writing s p) b
-  put-leaves {b = b} (put-broken s p q) = none _ (Writing s p) b
+  put-leaves {b = b} (put-refuses st n w m) = none n st b
   put-leaves {b = b} (put-none s p q) = none _ (Writing s p) b
   put-leaves {b = b} (put-some s p n q r) = adds-leave s p b

@@ -24,7 +24,7 @@ use Rattle.rules.specs.Sectors.{SectorOutcome, sector}
 use Rattle.rules.specs.WriteHeader.{HeaderOutcome, headerCall}
 use Rattle.rules.specs.Lists.{Call, cioOf, recoveryOf, outcomeOf}
 use Rattle.rules.specs.Demand1.{openAnswers, getAnswers, putAnswers, commandAnswers, sectorAnswers, headerAnswers, Answers}
-use Rattle.rules.proofs.Acts.{Kind, answersTo, GetEnds, get-closed, get-writing, get-broken, get-none, get-some, PutEnds, put-closed, put-reading, put-no-table, put-broken, put-none, put-some, Ends, refuses, reads, reads-none, writes, writes-none, frees, closes, drops, opens, rewrites, makes, tells, renames, deletes, locks, unlocks, formats, restores}
+use Rattle.rules.proofs.Acts.{Kind, answersTo, GetEnds, get-closed, get-writing, get-broken, get-none, get-some, PutEnds, put-refuses, put-none, put-some, Ends, refuses, reads, reads-none, writes, writes-none, frees, closes, drops, opens, rewrites, makes, tells, renames, deletes, locks, unlocks, formats, restores}
 use Rattle.rules.proofs.Ends.{get-ends, put-ends, answers-are, ends}
 use Rattle.theory.proofs.Served.{cio-on, recover-on, sector-on, thin-get-on, thin-put-on}
 
@@ -66,10 +66,7 @@ module _ (g : Geometry) (d : Disk) where
 
   put-answers : {st : State} {b : List ℕ} {o : PutOutcome} → PutEnds g d b st o → Among putAnswers (o .answer .status)
   unfolding puts member
-  put-answers put-closed = refl
-  put-answers (put-reading s k o l) = refl
-  put-answers (put-no-table s p q) = refl
-  put-answers (put-broken s p q) = refl
+  put-answers (put-refuses st n w m) = m
   put-answers (put-none s p q) = refl
   put-answers {b = b} (put-some s p n q r) = by-put-from g (Among putAnswers) refl refl b d s p 0
 

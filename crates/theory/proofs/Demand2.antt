@@ -60,10 +60,10 @@ module _ (g : Geometry) (x : System) (a : Sound g (x .disk) (x .table)) (c : Blo
   input-opens : flag d s ≢ 0x43 → Asks c (Files Open) → c .direction ≡ 4 → c .channel < 8 → openAt t (c .channel) ≡ false → perform g (cioOf c text b) x .status ≡ success
   unfolding outcomeOf
   input-opens n m e z f =
-      let (u, w, q, r) = k in
-      let v = find-at d (nameByte u w) s r .0 in
+      let (word, extension, q, r) = k in
+      let v = find-at d (nameByte word extension) s r .0 in
       let p = plain-flag (flag d s) (a .flags s (stands-slot d s v)) (stands-flag d s v) n in
-      rw (does-open g d t c text b s (record { ready = record { on = record { small = z; command = m }; shut = f }; direction = e; told = record { word = u; extension = w; read = q }; at = r; quiet = plain-sound (flag d s) p .3 }))
+      rw (does-open g d t c text b s (record { ready = record { on = record { small = z; command = m }; shut = f }; direction = e; told = record { word = word; extension = extension; read = q }; at = r; quiet = plain-sound (flag d s) p .3 }))
 
 -- a channel writes one slot
 slot-is : (t : Table) (i x s : ℕ) → WritesTo t i x → WritesTo t i s → x ≡ s
@@ -89,9 +89,9 @@ module _ (g : Geometry) (roomy : 0 < g .room) where
 
     found : LeavesNameAll s (events (disks g) ds y) → Finds (z .disk) (readName text) s
     found k =
-        let (u, w, r, q) = named in
-        let n = find-at (y .disk) (nameByte u w) s q .1 in
-        (u, w, r, find-is g (z .disk) (z .table) a2 s (nameByte u w) (stays .0 .stands) (bytes-same (z .disk) s (nameByte u w) (λ j l. stays .1 k j l ∙ same-bytes (y .disk) s (nameByte u w) n j l)))
+        let (word, extension, r, q) = named in
+        let n = find-at (y .disk) (nameByte word extension) s q .1 in
+        (word, extension, r, find-is g (z .disk) (z .table) a2 s (nameByte word extension) (stays .0 .stands) (bytes-same (z .disk) s (nameByte word extension) (λ j l. stays .1 k j l ∙ same-bytes (y .disk) s (nameByte word extension) n j l)))
 
     returns : Returns g (disks g) text put s (LeavesNameAll s (events (disks g) ds y)) z
     returns = record {
@@ -125,9 +125,9 @@ module _ (g : Geometry) (roomy : 0 < g .room) where
       let y2 = after (perform g close y1) in
       let bytes = kept .bytes ∙ p .bytes ∙ ap (λ l. l ++ putBytes (c .channel) (events (disks g) cs y0)) (ap (file g (y0 .disk)) (sym e) ∙ o .empty) in
       let named : Finds (y2 .disk) (readName text) s =
-      let (u, v, r, f) = o .finds in
-      let t = find-at (y0 .disk) (nameByte u v) (o .slot) f .1 in
-      (u, v, r, find-is g (y2 .disk) (y2 .table) a1 s (nameByte u v) (kept .stands) (bytes-same (y2 .disk) s (nameByte u v) (λ j l. same-bytes (y2 .disk) s _ name j l ∙ same-bytes (y0 .disk) s (nameByte u v) (rw e at t) j l))) in
+      let (word, extension, r, f) = o .finds in
+      let t = find-at (y0 .disk) (nameByte word extension) (o .slot) f .1 in
+      (word, extension, r, find-is g (y2 .disk) (y2 .table) a1 s (nameByte word extension) (kept .stands) (bytes-same (y2 .disk) s (nameByte word extension) (λ j l. same-bytes (y2 .disk) s _ name j l ∙ same-bytes (y0 .disk) s (nameByte word extension) (rw e at t) j l))) in
       (done, λ ds hs. returns text _ s y2 a1 (kept .stands) closed bytes named ds hs)
 
 -- on any sound disk

@@ -1,7 +1,7 @@
 -- The bytes of a put, one after the other: where each goes, and what holds of the disk behind them all.
 use mathlib.Core.Bool.{true}
 use mathlib.Core.List.{List, [], _∷_, _++_, append-assoc, append-nil}
-use mathlib.Core.Path.{_≡_, refl, sym, ap, _∙_}
+use mathlib.Core.Path.{_≡_, refl, ap, _∙_}
 use Prim.Native.Nat.{ℕ, suc, _+_, _<_}
 use native.Mathlib.Decide.{ℕ-discrete, decLt}
 use native.Mathlib.Omega.{arith}
@@ -18,8 +18,7 @@ use Rattle.layout.proofs.Data.{data-facts}
 use Rattle.layout.proofs.Good.{Good, lowest-free}
 use Rattle.layout.proofs.MapAll.{one-good}
 use Rattle.rules.specs.Put.{Adds, roomIn, addByte, putFrom}
-use Rattle.rules.proofs.Rooms.{room-here, room-none, room-new, put-next, put-full}
-use Rattle.theory.proofs.Sectors.{add-other}
+use Rattle.rules.proofs.Rooms.{add-table, room-here, room-none, room-new, put-next, put-full}
 use Rattle.theory.proofs.Give.{give-given}
 
 -- what a put of xs ends in, where n bytes are counted, b is put and the sectors l are given out before: as many bytes as fitted, counted; 162 where not all did.
@@ -46,7 +45,7 @@ module _ (g : Geometry) (roomy : 0 < g .room) (s : ℕ) (z : s < 64) (I : List �
       next : (m : List ℕ) (e : Disk) (q : ℕ) → dataSector q ≡ true → Good (e 360) → inUse g (e q) < g .room → I b (l ++ m) e q → More
           → let o = putFrom g xs (addByte g e q x) s q (n + 1) in Walks I b l (x ∷ xs) n (record { added = o .added; disk = o .disk; given = m ++ o .given })
       next m e q f t u i more =
-          let r = more (b ++ x ∷ []) (l ++ m) (addByte g e q x) q (n + 1) f (rw (add-other g e q x 360 (λ y. data-facts q f .table (sym y))) t) (add b (l ++ m) e q x f u i) in
+          let r = more (b ++ x ∷ []) (l ++ m) (addByte g e q x) q (n + 1) f (rw (add-table g e q x f) t) (add b (l ++ m) e q x f u i) in
           record {
             fitted = suc (r .fitted);
             count = r .count ∙ omega arith;

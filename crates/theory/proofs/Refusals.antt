@@ -27,7 +27,7 @@ use Rattle.rules.specs.Thin.{ImagePutOutcome, thinGet, thinPut}
 use Rattle.rules.specs.WriteHeader.{HeaderOutcome, headerCall}
 use Rattle.rules.specs.Lists.{Call, cioOf, recoveryOf, outcomeOf}
 use Rattle.rules.specs.Demand1.{partials, Refusal, Unchanged, Refusals}
-use Rattle.rules.proofs.Acts.{Kind, asks, recovers, bufferOf, GetEnds, get-closed, get-writing, get-broken, get-none, get-some, PutEnds, put-closed, put-reading, put-no-table, put-broken, put-none, put-some, Ends, refuses, reads, reads-none, writes, writes-none, frees, closes, drops, opens, rewrites, makes, tells, renames, deletes, locks, unlocks, formats, restores}
+use Rattle.rules.proofs.Acts.{Kind, asks, recovers, bufferOf, GetEnds, get-closed, get-writing, get-broken, get-none, get-some, PutEnds, put-refuses, put-none, put-some, Ends, refuses, reads, reads-none, writes, writes-none, frees, closes, drops, opens, rewrites, makes, tells, renames, deletes, locks, unlocks, formats, restores}
 use Rattle.rules.proofs.Ends.{get-ends, put-ends, ends}
 use Rattle.theory.proofs.Served.{kept-image}
 use Rattle.theory.proofs.Answers.{by-get-from, by-put-from}
@@ -83,10 +83,7 @@ module _ (g : Geometry) (d : Disk) where
 
   put-kept : {st : State} {b : List ℕ} {o : PutOutcome} → PutEnds g d b st o → Refusal (Moves Put) (o .answer .status) → PutKept d st o
   unfolding puts
-  put-kept put-closed h = (refl, refl, refl)
-  put-kept (put-reading s k o l) h = (refl, refl, refl)
-  put-kept (put-no-table s p q) h = (refl, refl, refl)
-  put-kept (put-broken s p q) h = (refl, refl, refl)
+  put-kept (put-refuses st n w m) h = (refl, refl, refl)
   put-kept (put-none s p q) h = (refl, refl, refl)
   put-kept {b = b} (put-some s p n q r) h = bytes-added g d s p b h
 

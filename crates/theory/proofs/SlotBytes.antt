@@ -6,7 +6,7 @@ use Prim.Native.Nat.{ℕ, suc, zero, _+_, _*_, _/_, _%_, _≤_, _<_}
 use native.Mathlib.Decide.{ℕ-discrete}
 use native.Mathlib.Nat.{mod-eq-of-lt}
 use native.Mathlib.Omega.{arith}
-use Rattle.layout.specs.Image.{Sector, Disk, writeByte}
+use Rattle.layout.specs.Image.{Sector, Disk, writeByte, word}
 use Rattle.layout.specs.Volume.{dataSector}
 use Rattle.layout.specs.Directory.{entry, writeEntry, flag, writeFlag, count, writeCount, first, writeFirst, name, writeNameFrom, writeName}
 use Rattle.layout.proofs.Update.{update-same, update-other, write-same, write-other, pair-read}
@@ -96,20 +96,9 @@ module _ (s : ℕ) (z : s < 64) where
     rows = λ x n. fun-ext (λ i. write-place d (361 + s / 8) (s % 8 * 16 + j) v (361 + x / 8) (x % 8 * 16 + i % 16) (λ e. omega arith));
   }
 
-  only-two : (d : Disk) (i u j v : ℕ) → i < 16 → j < 16 → Only s d (writeEntry (writeEntry d s i u) s j v)
-  only-two d i u j v a b = only-join s d (writeEntry d s i u) _ (only-entry d i u a) (only-entry (writeEntry d s i u) j v b)
-
   pub only-flag : (d : Disk) (v : ℕ) → Only s d (writeFlag d s v)
   unfolding writeFlag
   only-flag d v = only-entry d 0 v (omega arith)
-
-  pub only-count : (d : Disk) (n : ℕ) → Only s d (writeCount d s n)
-  unfolding writeCount
-  only-count d n = only-two d 1 (n % 256) 2 (n / 256 % 256) (omega arith) (omega arith)
-
-  pub only-first : (d : Disk) (n : ℕ) → Only s d (writeFirst d s n)
-  unfolding writeFirst
-  only-first d n = only-two d 3 (n % 256) 4 (n / 256 % 256) (omega arith) (omega arith)
 
   only-names : (w : ℕ → ℕ) (n j : ℕ) (d : Disk) → j + n ≤ 11 → Only s d (writeNameFrom d s w n j)
   unfolding writeNameFrom
@@ -133,32 +122,28 @@ module _ (d : Disk) (s v : ℕ) where
   pub flag-table : s < 64 → writeFlag d s v 360 ≡ d 360
   flag-table z = only-flag s z d v .sectors 360 table-outside
 
--- two bytes of slot s written
-module _ (d : Disk) (s i u j v : ℕ) where
-  two-byte : (y : ℕ) → y ≢ i → y ≢ j → entry (writeEntry (writeEntry d s i u) s j v) s y ≡ entry d s y
-  two-byte y m n = entry-byte (writeEntry d s i u) s j v y n ∙ entry-byte d s i u y m
+-- bytes i and i + 1 of a slot are a word, low byte first: what writing it leaves
+pub record WordAt (i : ℕ) (read : Disk → ℕ → ℕ) (write : Disk → ℕ → ℕ → Disk) : Type 0 where
+  pub is : (d : Disk) (s n : ℕ) → n < 65536 → read (write d s n) s ≡ n
+  pub byte : (d : Disk) (s n y : ℕ) → y ≢ i → y ≢ i + 1 → entry (write d s n) s y ≡ entry d s y
+  pub only : (s : ℕ) → s < 64 → (d : Disk) (n : ℕ) → Only s d (write d s n)
 
-  two-word : (n : ℕ) → n < 65536 → i ≢ j → u ≡ n % 256 → v ≡ n / 256 % 256 → entry (writeEntry (writeEntry d s i u) s j v) s i + 256 * entry (writeEntry (writeEntry d s i u) s j v) s j ≡ n
-  unfolding writeEntry
-  two-word n l m a b = rw (a, b) (pair-read d (361 + s / 8) (s % 8 * 16 + i) (s % 8 * 16 + j) n (λ e. m (omega arith)) ∙ omega arith)
+word-at : (i : ℕ) → i < 15 → WordAt i (λ d s. word (entry d s) i) (λ d s n. writeEntry (writeEntry d s i (n % 256)) s (i + 1) (n / 256 % 256))
+unfolding writeEntry
+word-at i l = record {
+  is = λ d s n h. pair-read d (361 + s / 8) (s % 8 * 16 + i) (s % 8 * 16 + (i + 1)) n (omega arith) ∙ omega arith;
+  byte = λ d s n y a b. entry-byte (writeEntry d s i (n % 256)) s (i + 1) (n / 256 % 256) y b ∙ entry-byte d s i (n % 256) y a;
+  only = λ s z d n. only-join s d (writeEntry d s i (n % 256)) _ (only-entry s z d i (n % 256) (omega arith)) (only-entry s z (writeEntry d s i (n % 256)) (i + 1) (n / 256 % 256) (omega arith));
+}
 
--- the count and the first sector written
-module _ (d : Disk) (s n : ℕ) where
-  pub count-is : n < 65536 → count (writeCount d s n) s ≡ n
-  unfolding writeCount
-  count-is l = two-word d s 1 (n % 256) 2 (n / 256 % 256) n l (omega arith) refl refl
+-- the sector count, and the first sector
+pub count-word : WordAt 1 count writeCount
+unfolding writeCount
+count-word = word-at 1 (omega arith)
 
-  pub count-byte : (y : ℕ) → y ≢ 1 → y ≢ 2 → entry (writeCount d s n) s y ≡ entry d s y
-  unfolding writeCount
-  count-byte = two-byte d s 1 (n % 256) 2 (n / 256 % 256)
-
-  pub first-is : n < 65536 → first (writeFirst d s n) s ≡ n
-  unfolding writeFirst
-  first-is l = two-word d s 3 (n % 256) 4 (n / 256 % 256) n l (omega arith) refl refl
-
-  pub first-byte : (y : ℕ) → y ≢ 3 → y ≢ 4 → entry (writeFirst d s n) s y ≡ entry d s y
-  unfolding writeFirst
-  first-byte = two-byte d s 3 (n % 256) 4 (n / 256 % 256)
+pub first-word : WordAt 3 first writeFirst
+unfolding writeFirst
+first-word = word-at 3 (omega arith)
 
 -- a name written: the bytes before it, and its own
 module _ (s : ℕ) (w : ℕ → ℕ) where

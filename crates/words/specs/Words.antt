@@ -13,10 +13,7 @@ use Rattle.layout.specs.declared.Table.{Table}
 use Rattle.layout.specs.Basics.{if, allBelow}
 use Rattle.layout.specs.Channels.{channel, stateOf}
 
--- the kinds: 0 closed, 1 reading, 2 writing
-abbrev pub closed : ℕ
-closed = 0
-
+-- the kinds: 1 reading, 2 writing; 0 is closed
 abbrev pub reading : ℕ
 reading = 1
 
@@ -38,9 +35,9 @@ stateIn ws =
     (if (eqb (getD ws 0 0) writing) (Writing (getD ws 1 0) (getD ws 2 0))
     Closed)
 
--- the words of a state; those that its kind does not use are 0
+-- the words of a state; those that its kind does not use are 0, and a closed channel is five zeros
 unfoldable pub wordsOf : State → List ℕ
-wordsOf Closed = closed ∷ 0 ∷ 0 ∷ 0 ∷ 0 ∷ []
+wordsOf Closed = 0 ∷ 0 ∷ 0 ∷ 0 ∷ 0 ∷ []
 wordsOf (Reading s k o l) = reading ∷ s ∷ k ∷ o ∷ l ∷ []
 wordsOf (Writing s p) = writing ∷ s ∷ p ∷ 0 ∷ 0 ∷ []
 

@@ -4,8 +4,7 @@ ghost use mathlib.Core.Path.{_≡_};
 ghost use lib.ListN.{length};
 ghost use Rattle.words.specs.Words.{inForce, isChannel, stateIn, channelAfter};
 
-const CLOSED: u16 = 0;
-
+// The kinds; 0 is closed.
 const READING: u16 = 1;
 
 const WRITING: u16 = 2;
@@ -71,7 +70,7 @@ pub fn leave_state(words: &mut [u16], st: State)
     match st {
         State::Closed => {
             if (words[0] == READING) | (words[0] == WRITING) {
-                write_words(words, [CLOSED, 0, 0, 0, 0]);
+                write_words(words, [0; 5]);
             }
         }
         State::Reading {

@@ -108,30 +108,4 @@ returns-5 c =
 
 pub dos-cio-spec : {M : Type 1} → statement M
 dos-cio-spec =
-    tie.close
-    (tie.spec
-    is-table-requires
-    same-length
-    returns
-    no-channel-requires
-    same-length-2
-    same-length-3
-    returns-2
-    command-of-requires
-    enum-known-k
-    other-command-requires
-    same-length-4
-    same-length-5
-    returns-3
-    enum-told
-    get-direct-requires
-    enum-told-2
-    put-direct-requires
-    same-length-6
-    same-length-7
-    same-length-8
-    returns-4
-    same-length-9
-    same-length-10
-    same-length-11
-    returns-5)
+    tie.close (tie.spec is-table-requires same-length returns no-channel-requires same-length-2 same-length-3 returns-2 command-of-requires enum-known-k other-command-requires same-length-4 same-length-5 returns-3 enum-told get-direct-requires enum-told-2 put-direct-requires same-length-6 same-length-7 same-length-8 returns-4 same-length-9 same-length-10 same-length-11 returns-5)

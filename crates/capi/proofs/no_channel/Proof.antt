@@ -30,12 +30,4 @@ returns-2 c = c .pack2 .ensures ∙ sym (served-not _ _ _ (sym (c .before .befor
 
 pub no-channel-spec : {M : Type 1} → statement M
 no-channel-spec =
-    tie.close
-    (tie.spec
-    served-as-requires
-    enum-told
-    pack-requires
-    enum-known-v
-    pack-requires-2
-    returns
-    returns-2)
+    tie.close (tie.spec served-as-requires enum-told pack-requires enum-known-v pack-requires-2 returns returns-2)

@@ -62,18 +62,4 @@ returns-2 c b = image-ends _ _ _ _ b (c .before .before .before .before .before 
 
 pub other-command-spec : {M : Type 1} → statement M
 other-command-spec =
-    tie.close
-    (tie.spec
-    served-as-requires
-    enum-known-v
-    table-of-requires
-    others-requires
-    leave-table-requires
-    pack-requires
-    enum-known-v-2
-    pack-requires-2
-    same-length
-    same-length-2
-    returns
-    same-length-3
-    returns-2)
+    tie.close (tie.spec served-as-requires enum-known-v table-of-requires others-requires leave-table-requires pack-requires enum-known-v-2 pack-requires-2 same-length same-length-2 returns same-length-3 returns-2)

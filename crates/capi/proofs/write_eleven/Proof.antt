@@ -43,15 +43,4 @@ returns c = let e : c .before .loop .j ≡ 11 = omega arith in filled-all _ _ 11
 
 pub write-eleven-spec : {M : Type 1} → statement M
 write-eleven-spec =
-    tie.close
-    (tie.spec
-    Inv-loop
-    μ-loop
-    loop-holds
-    name-byte-requires
-    slice-write-eleven
-    add-j
-    loop-less
-    loop-again
-    same-length
-    returns)
+    tie.close (tie.spec Inv-loop μ-loop loop-holds name-byte-requires slice-write-eleven add-j loop-less loop-again same-length returns)

@@ -40,15 +40,4 @@ returns-2 c = (sym (c .before .loop .inv .2 ∙ first-end _ _ _ (omega arith)), 
 
 pub end-of-spec : {M : Type 1} → statement M
 end-of-spec =
-    tie.close
-    (tie.spec
-    Inv-loop
-    μ-loop
-    loop-holds
-    add-loop
-    not-plain-requires
-    returns
-    add-k
-    loop-less
-    loop-again
-    returns-2)
+    tie.close (tie.spec Inv-loop μ-loop loop-holds add-loop not-plain-requires returns add-k loop-less loop-again returns-2)

@@ -29,11 +29,4 @@ returns c =
 
 pub write-map-spec : {M : Type 1} → statement M
 write-map-spec =
-    tie.close
-    (tie.spec
-    write-ones-requires
-    write-byte-requires
-    write-byte-requires-2
-    write-byte-requires-3
-    same-length
-    returns)
+    tie.close (tie.spec write-ones-requires write-byte-requires write-byte-requires-2 write-byte-requires-3 same-length returns)

@@ -37,14 +37,4 @@ returns c = let e : c .before .loop .j ≡ 100 = omega arith in c .before .loop 
 
 pub write-ones-spec : {M : Type 1} → statement M
 write-ones-spec =
-    tie.close
-    (tie.spec
-    Inv-loop
-    μ-loop
-    loop-holds
-    write-byte-requires
-    add-j
-    loop-less
-    loop-again
-    same-length
-    returns)
+    tie.close (tie.spec Inv-loop μ-loop loop-holds write-byte-requires add-j loop-less loop-again same-length returns)

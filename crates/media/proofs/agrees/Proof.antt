@@ -30,13 +30,4 @@ returns c = rw (c .before .before .before .before .before .before .same-at .ensu
 
 pub agrees-spec : {M : Type 1} → statement M
 agrees-spec =
-    tie.close
-    (tie.spec
-    same-at-requires
-    same-at-requires-2
-    same-at-requires-3
-    same-at-requires-4
-    same-at-requires-5
-    same-at-requires-6
-    same-at-requires-7
-    returns)
+    tie.close (tie.spec same-at-requires same-at-requires-2 same-at-requires-3 same-at-requires-4 same-at-requires-5 same-at-requires-6 same-at-requires-7 returns)

@@ -31,13 +31,4 @@ returns c = omega arith
 
 pub extension-word-spec : {M : Type 1} → statement M
 extension-word-spec =
-    tie.close
-    (tie.spec
-    padded-requires
-    padded-requires-2
-    mul-result
-    add-result
-    padded-requires-3
-    mul-result-2
-    add-result-2
-    returns)
+    tie.close (tie.spec padded-requires padded-requires-2 mul-result add-result padded-requires-3 mul-result-2 add-result-2 returns)

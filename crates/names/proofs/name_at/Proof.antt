@@ -40,13 +40,4 @@ returns-2 c = let f = c .before .before .before .well-formed in rw (← f .ensur
 
 pub name-at-spec : {M : Type 1} → statement M
 name-at-spec =
-    tie.close
-    (tie.spec
-    name-end-requires
-    whole-end-requires
-    well-formed-requires
-    returns
-    name-word-requires
-    add-extension-word
-    extension-word-requires
-    returns-2)
+    tie.close (tie.spec name-end-requires whole-end-requires well-formed-requires returns name-word-requires add-extension-word extension-word-requires returns-2)

@@ -32,13 +32,4 @@ returns-2 c = rw (le-ltb (c .before .args .j) 8 (c .if1 .left))
 
 pub name-byte-spec : {M : Type 1} → statement M
 name-byte-spec =
-    tie.close
-    (tie.spec
-    mul-result
-    shr-result
-    cast-result
-    returns
-    mul-result-2
-    shr-result-2
-    cast-result-2
-    returns-2)
+    tie.close (tie.spec mul-result shr-result cast-result returns mul-result-2 shr-result-2 cast-result-2 returns-2)

@@ -76,28 +76,4 @@ returns c = omega arith
 
 pub name-word-spec : {M : Type 1} → statement M
 name-word-spec =
-    tie.close
-    (tie.spec
-    padded-requires
-    padded-requires-2
-    mul-result
-    add-result
-    padded-requires-3
-    mul-result-2
-    add-result-2
-    padded-requires-4
-    mul-result-3
-    add-result-3
-    padded-requires-5
-    mul-result-4
-    add-result-4
-    padded-requires-6
-    mul-result-5
-    add-result-5
-    padded-requires-7
-    mul-result-6
-    add-result-6
-    padded-requires-8
-    mul-result-7
-    add-result-7
-    returns)
+    tie.close (tie.spec padded-requires padded-requires-2 mul-result add-result padded-requires-3 mul-result-2 add-result-2 padded-requires-4 mul-result-3 add-result-3 padded-requires-5 mul-result-4 add-result-4 padded-requires-6 mul-result-5 add-result-5 padded-requires-7 mul-result-6 add-result-6 padded-requires-8 mul-result-7 add-result-7 returns)

@@ -25,11 +25,4 @@ returns c = tells-name (cc)
 
 pub new-name-spec : {M : Type 1} → statement M
 new-name-spec =
-    tie.close
-    (tie.spec
-    body-requires
-    name-end-requires
-    whole-end-requires
-    add-name-at
-    name-at-requires
-    returns)
+    tie.close (tie.spec body-requires name-end-requires whole-end-requires add-name-at name-at-requires returns)

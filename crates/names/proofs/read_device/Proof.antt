@@ -1,24 +1,22 @@
 use mathlib.Core.Bool.{not}
-use mathlib.Core.Path.{sym, ap, _∙_}
+use mathlib.Core.Path.{_≡_, sym, ap, _∙_}
 use borrow.Author.Needs.{needs}
-use Rattle.layout.specs.Names.{readDevice, ending, char}
+use Rattle.layout.specs.Names.{readDevice, body, ending, char}
 use Rattle.layout.proofs.Check.{check-yes, check-no}
+use Rattle.names.proofs.Device.{device-not, device-is}
 use Rattle.names.proofs.read_device.Statement.{statement}
 use Rattle.names.proofs.read_device.Tie as tie
 
-has-device-requires : tie.Need-has-device-requires
-has-device-requires c κs = search needs
+-- the byte behind the device was asked about
+ended : (c : tie.After-ending) → let text = c .before .before .before .before .before .before .args .text .now in not (c .ending .result) ≡ not (ending (char text (body text)))
+ended c = ap not (c .ending .ensures ∙ ap ending (c .before .char .ensures ∙ ap (char _) (c .before .before .body .ensures .0)))
+
+device-status-requires : tie.Need-device-status-requires
+device-status-requires c κs = search needs
 
 returns : tie.Need-returns
 unfolding readDevice
-returns c = sym (check-yes _ _ _ (ap not (sym (c .before .has-device .ensures)) ∙ c .if1 .taken))
-
-has-unit-requires : tie.Need-has-unit-requires
-has-unit-requires c κs = search needs
-
-returns-2 : tie.Need-returns-2
-unfolding readDevice
-returns-2 c = sym (check-no _ _ _ (ap not (sym (c .before .before .before .has-device .ensures)) ∙ c .before .before .if1 .left) ∙ check-yes _ _ _ (ap not (sym (c .before .has-unit .ensures)) ∙ c .if2 .taken))
+returns c = sym (device-not (λ n. n) _ _ (c .before .device-status .ensures) (c .if1 .taken))
 
 body-requires : tie.Need-body-requires
 body-requires c κs = search needs
@@ -29,38 +27,18 @@ char-requires c κs = search needs
 ending-requires : tie.Need-ending-requires
 ending-requires c κs = search needs
 
+returns-2 : tie.Need-returns-2
+unfolding readDevice
+returns-2 c =
+    let unit = c .before .before .before .before in
+    sym (device-is (λ n. n) _ _ (unit .before .device-status .ensures) (unit .if1 .left) ∙ check-yes _ _ _ (sym (ended (c .before)) ∙ c .if2 .taken))
+
 returns-3 : tie.Need-returns-3
 unfolding readDevice
 returns-3 c =
-    let body = c .before .before .before in
-    let unit = body .before in
-    let device = unit .before .before in
-    let p = ap not (sym (device .before .has-device .ensures)) ∙ device .if1 .left in
-    let q = ap not (sym (unit .before .has-unit .ensures)) ∙ unit .if2 .left in
-    let e = c .before .ending .ensures ∙ ap ending (c .before .before .char .ensures ∙ ap (char _) (body .body .ensures .0)) in
-    sym (check-no _ _ _ p ∙ check-no _ _ _ q ∙ check-yes _ _ _ (ap not (sym e) ∙ c .if3 .taken))
-
-returns-4 : tie.Need-returns-4
-unfolding readDevice
-returns-4 c =
-    let body = c .before .before .before in
-    let unit = body .before in
-    let device = unit .before .before in
-    let p = ap not (sym (device .before .has-device .ensures)) ∙ device .if1 .left in
-    let q = ap not (sym (unit .before .has-unit .ensures)) ∙ unit .if2 .left in
-    let e = c .before .ending .ensures ∙ ap ending (c .before .before .char .ensures ∙ ap (char _) (body .body .ensures .0)) in
-    sym (check-no _ _ _ p ∙ check-no _ _ _ q ∙ check-no _ _ _ (ap not (sym e) ∙ c .if3 .left))
+    let unit = c .before .before .before .before in
+    sym (device-is (λ n. n) _ _ (unit .before .device-status .ensures) (unit .if1 .left) ∙ check-no _ _ _ (sym (ended (c .before)) ∙ c .if2 .left))
 
 pub read-device-spec : {M : Type 1} → statement M
 read-device-spec =
-    tie.close
-    (tie.spec
-    has-device-requires
-    returns
-    has-unit-requires
-    returns-2
-    body-requires
-    char-requires
-    ending-requires
-    returns-3
-    returns-4)
+    tie.close (tie.spec device-status-requires returns body-requires char-requires ending-requires returns-2 returns-3)

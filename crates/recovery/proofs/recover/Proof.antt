@@ -41,14 +41,4 @@ returns-2 c = let e = served-not {A = ImageRecovered} _ _ _ (sym (c .before .bef
 
 pub recover-spec : {M : Type 1} → statement M
 recover-spec =
-    tie.close
-    (tie.spec
-    served-as-requires
-    enum-known-v
-    recover-slot-requires
-    enum-known-v-2
-    reply-requires
-    same-length
-    returns
-    same-length-2
-    returns-2)
+    tie.close (tie.spec served-as-requires enum-known-v recover-slot-requires enum-known-v-2 reply-requires same-length returns same-length-2 returns-2)

@@ -98,33 +98,4 @@ returns-7 c = rw (c .before .before .before .before .enum-told7 .given .1) (c .b
 
 pub file-command-spec : {M : Type 1} → statement M
 file-command-spec =
-    tie.close
-    (tie.spec
-    enum-told
-    open-requires
-    enum-told-2
-    status-requires
-    enum-told-3
-    rename-requires
-    enum-told-4
-    delete-requires
-    enum-told-5
-    lock-requires
-    enum-told-6
-    unlock-requires
-    enum-told-7
-    format-requires
-    same-length
-    returns
-    same-length-2
-    returns-2
-    same-length-3
-    returns-3
-    same-length-4
-    returns-4
-    same-length-5
-    returns-5
-    same-length-6
-    returns-6
-    same-length-7
-    returns-7)
+    tie.close (tie.spec enum-told open-requires enum-told-2 status-requires enum-told-3 rename-requires enum-told-4 delete-requires enum-told-5 lock-requires enum-told-6 unlock-requires enum-told-7 format-requires same-length returns same-length-2 returns-2 same-length-3 returns-3 same-length-4 returns-4 same-length-5 returns-5 same-length-6 returns-6 same-length-7 returns-7)

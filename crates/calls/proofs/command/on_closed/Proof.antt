@@ -30,12 +30,4 @@ returns-2 c = rw (check-no {A = Effect} _ _ _ (sym (c .before .before .before .b
 
 pub on-closed-spec : {M : Type 1} → statement M
 on-closed-spec =
-    tie.close
-    (tie.spec
-    cast-open-at
-    open-at-requires
-    answer-requires
-    returns
-    file-command-requires
-    same-length
-    returns-2)
+    tie.close (tie.spec cast-open-at open-at-requires answer-requires returns file-command-requires same-length returns-2)

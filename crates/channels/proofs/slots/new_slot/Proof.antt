@@ -45,14 +45,4 @@ returns-2 c = let s : c .before .loop .s ≡ 64 = omega arith in let e = c .befo
 
 pub new-slot-spec : {M : Type 1} → statement M
 new-slot-spec =
-    tie.close
-    (tie.spec
-    Inv-loop
-    μ-loop
-    loop-holds
-    vacant-requires
-    returns
-    add-s
-    loop-less
-    loop-again
-    returns-2)
+    tie.close (tie.spec Inv-loop μ-loop loop-holds vacant-requires returns add-s loop-less loop-again returns-2)

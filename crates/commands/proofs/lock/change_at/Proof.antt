@@ -43,15 +43,4 @@ returns-2 c =
 
 pub change-at-spec : {M : Type 1} → statement M
 change-at-spec =
-    tie.close
-    (tie.spec
-    held-requires
-    answer-requires
-    same-length
-    returns
-    flag-requires
-    changed-requires
-    write-flag-requires
-    answer-requires-2
-    same-length-2
-    returns-2)
+    tie.close (tie.spec held-requires answer-requires same-length returns flag-requires changed-requires write-flag-requires answer-requires-2 same-length-2 returns-2)

@@ -87,23 +87,4 @@ returns-3 c =
 
 pub rename-spec : {M : Type 1} → statement M
 rename-spec =
-    tie.close
-    (tie.spec
-    old-name-requires
-    new-name-requires
-    both-names-requires
-    find-target-requires
-    enum-known-a
-    target-status-requires
-    answer-requires
-    same-length
-    returns
-    enum-known-w
-    enum-told
-    name-status-requires
-    answer-requires-2
-    same-length-2
-    returns-2
-    rename-at-requires
-    same-length-3
-    returns-3)
+    tie.close (tie.spec old-name-requires new-name-requires both-names-requires find-target-requires enum-known-a target-status-requires answer-requires same-length returns enum-known-w enum-told name-status-requires answer-requires-2 same-length-2 returns-2 rename-at-requires same-length-3 returns-3)

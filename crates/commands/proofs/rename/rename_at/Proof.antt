@@ -1,30 +1,19 @@
-use mathlib.Core.Path.{refl, sym, ap, _∙_}
+use mathlib.Core.Path.{refl, sym, _∙_}
 use borrow.Author.Needs.{needs}
 use Rattle.layout.specs.Image.{geometryOf, view}
-use Rattle.layout.specs.Directory.{locked}
 use Rattle.layout.specs.Names.{nameByte}
 use Rattle.layout.proofs.Check.{check-yes, check-no}
 use Rattle.rules.specs.Commands.{renameAt}
-use Rattle.rules.proofs.Told.{Down, Further, told, told-disk}
+use Rattle.rules.proofs.Told.{Down, told, told-disk, passing-not, passing-is}
 use Rattle.commands.proofs.rename.rename_at.Statement.{statement}
 use Rattle.commands.proofs.rename.rename_at.Tie as tie
 
-abbrev past-locked : (c : tie.Else1) → let a = c .before .before .before .before .before .before .before .args in Down (renameAt (geometryOf (a .m)) (view (geometryOf (a .m)) (a .image .now)) (a .t) (nameByte (a .name) (a .extension)) (a .s))
+abbrev past-kept : (c : tie.Else1) → let a = c .before .before .before .before .args in Down (renameAt (geometryOf (a .m)) (view (geometryOf (a .m)) (a .image .now)) (a .t) (nameByte (a .name) (a .extension)) (a .s))
 unfolding renameAt
-past-locked c = (_, check-no _ _ _ (ap locked (sym (c .before .before .before .before .flag .ensures)) ∙ sym (c .before .before .before .locked .ensures) ∙ c .if1 .left))
+past-kept c = (_, passing-is _ _ _ (c .before .may-change .ensures) (c .if1 .left))
 
-abbrev past-held : (c : tie.Else2) → Further (past-locked (c .before))
-unfolding renameAt
-past-held c = (_, past-locked (c .before) .1 ∙ check-no _ _ _ (sym (c .before .before .held .ensures) ∙ c .if2 .left))
-
-flag-requires : tie.Need-flag-requires
-flag-requires c κs = search needs
-
-locked-requires : tie.Need-locked-requires
-locked-requires c κs = search needs
-
-held-requires : tie.Need-held-requires
-held-requires c κs = search needs
+may-change-requires : tie.Need-may-change-requires
+may-change-requires c κs = search needs
 
 answer-requires : tie.Need-answer-requires
 answer-requires c κs = search needs
@@ -34,9 +23,10 @@ same-length c = search needs
 
 returns : tie.Need-returns
 unfolding renameAt
-returns c =
-    let p1 = c .before .before .before .before in
-    let e = check-yes _ _ _ (ap locked (sym (p1 .before .flag .ensures)) ∙ sym (p1 .locked .ensures) ∙ c .before .if1 .taken) in (told _ e (c .answer .ensures), told-disk _ e refl)
+returns c = let e = passing-not _ _ _ (c .before .before .may-change .ensures) (c .before .if1 .taken) in (told _ e (c .answer .ensures), told-disk _ e refl)
+
+another-requires : tie.Need-another-requires
+another-requires c κs = search needs
 
 answer-requires-2 : tie.Need-answer-requires-2
 answer-requires-2 c κs = search needs
@@ -46,10 +36,10 @@ same-length-2 c = search needs
 
 returns-2 : tie.Need-returns-2
 unfolding renameAt
-returns-2 c = let e = past-locked (c .before .before) .1 ∙ check-yes _ _ _ (sym (c .before .before .before .held .ensures) ∙ c .before .if2 .taken) in (told _ e (c .answer2 .ensures), told-disk _ e refl)
+returns-2 c = let e = past-kept (c .before .before .before .before) .1 ∙ check-yes _ _ _ (sym (c .before .before .another .ensures) ∙ c .before .if2 .taken) in (told _ e (c .answer2 .ensures), told-disk _ e refl)
 
-another-requires : tie.Need-another-requires
-another-requires c κs = search needs
+write-name-requires : tie.Need-write-name-requires
+write-name-requires c κs = search needs
 
 answer-requires-3 : tie.Need-answer-requires-3
 answer-requires-3 c κs = search needs
@@ -59,42 +49,11 @@ same-length-3 c = search needs
 
 returns-3 : tie.Need-returns-3
 unfolding renameAt
-returns-3 c = let e = past-held (c .before .before .before .before) .1 ∙ check-yes _ _ _ (sym (c .before .before .another .ensures) ∙ c .before .if3 .taken) in (told _ e (c .answer3 .ensures), told-disk _ e refl)
-
-write-name-requires : tie.Need-write-name-requires
-write-name-requires c κs = search needs
-
-answer-requires-4 : tie.Need-answer-requires-4
-answer-requires-4 c κs = search needs
-
-same-length-4 : tie.Need-same-length-4
-same-length-4 c = search needs
-
-returns-4 : tie.Need-returns-4
-unfolding renameAt
-returns-4 c =
-    let p1 = c .before .before .before in
-    let p2 = p1 .before .before .before in
-    let e = past-held (p2 .before .before) .1 ∙ check-no _ _ _ (sym (p2 .another .ensures) ∙ p1 .before .before .if3 .left) in (told _ e (c .answer4 .ensures), told-disk _ e (p1 .write-name .ensures))
+returns-3 c =
+    let free = (c .before .before .before .before .before .before) in
+    let e = past-kept (free .before .before) .1 ∙ check-no _ _ _ (sym (free .another .ensures) ∙ c .before .before .before .before .before .if2 .left) in
+    (told _ e (c .answer3 .ensures), told-disk _ e (c .before .before .before .write-name .ensures))
 
 pub rename-at-spec : {M : Type 1} → statement M
 rename-at-spec =
-    tie.close
-    (tie.spec
-    flag-requires
-    locked-requires
-    held-requires
-    answer-requires
-    same-length
-    returns
-    answer-requires-2
-    same-length-2
-    returns-2
-    another-requires
-    answer-requires-3
-    same-length-3
-    returns-3
-    write-name-requires
-    answer-requires-4
-    same-length-4
-    returns-4)
+    tie.close (tie.spec may-change-requires answer-requires same-length returns another-requires answer-requires-2 same-length-2 returns-2 write-name-requires answer-requires-3 same-length-3 returns-3)

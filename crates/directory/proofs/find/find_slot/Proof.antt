@@ -69,19 +69,4 @@ returns-3 c = (tells-found nameTaken success (search-end _ _ _ (c .before .loop 
 
 pub find-slot-spec : {M : Type 1} → statement M
 find-slot-spec =
-    tie.close
-    (tie.spec
-    Inv-loop
-    μ-loop
-    slot-start-requires
-    loop-holds
-    entry-at-requires
-    standing-flag-requires
-    same-name-requires
-    returns
-    returns-2
-    add-s
-    slot-after-requires
-    loop-less
-    loop-again
-    returns-3)
+    tie.close (tie.spec Inv-loop μ-loop slot-start-requires loop-holds entry-at-requires standing-flag-requires same-name-requires returns returns-2 add-s slot-after-requires loop-less loop-again returns-3)

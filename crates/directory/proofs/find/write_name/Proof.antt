@@ -45,16 +45,4 @@ returns c = sym (c .before .loop .inv .2 ∙ name-end _ _ _ 11 _ (omega arith))
 
 pub write-name-spec : {M : Type 1} → statement M
 write-name-spec =
-    tie.close
-    (tie.spec
-    Inv-loop
-    μ-loop
-    loop-holds
-    add-write-entry
-    name-byte-requires
-    write-entry-requires
-    add-j
-    loop-less
-    loop-again
-    same-length
-    returns)
+    tie.close (tie.spec Inv-loop μ-loop loop-holds add-write-entry name-byte-requires write-entry-requires add-j loop-less loop-again same-length returns)

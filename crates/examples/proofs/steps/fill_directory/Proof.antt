@@ -24,11 +24,11 @@ add-t8 c = search needs
 slice-aggregate-make : tie.Need-slice-aggregate-make Inv-loop μ-loop
 slice-aggregate-make c = search needs
 
-slice-aggregate-make-2 : tie.Need-slice-aggregate-make-2 Inv-loop μ-loop
-slice-aggregate-make-2 c = search needs
-
 make-requires : tie.Need-make-requires Inv-loop μ-loop
 make-requires c κs = search needs
+
+succeeded-requires : tie.Need-succeeded-requires Inv-loop μ-loop
+succeeded-requires c κs = search needs
 
 same-length : tie.Need-same-length Inv-loop μ-loop
 same-length c = search needs
@@ -52,4 +52,4 @@ returns-2 : tie.Need-returns-2 Inv-loop μ-loop
 returns-2 c = search needs
 
 pub fill-directory-spec : {M : Type 1} → statement M
-fill-directory-spec = tie.close (tie.spec Inv-loop μ-loop loop-holds add-t6 add-t8 slice-aggregate-make slice-aggregate-make-2 make-requires same-length returns add-i loop-less loop-again same-length-2 returns-2)
+fill-directory-spec = tie.close (tie.spec Inv-loop μ-loop loop-holds add-t6 add-t8 slice-aggregate-make make-requires succeeded-requires same-length returns add-i loop-less loop-again same-length-2 returns-2)

@@ -87,24 +87,4 @@ returns-3 c = let e = gets-all (c .before .before .loop .inv .1) (omega arith) i
 
 pub get-from-spec : {M : Type 1} → statement M
 get-from-spec =
-    tie.close
-    (tie.spec
-    Inv-loop
-    μ-loop
-    loop-holds
-    seek-byte-requires
-    enum-known-s
-    get-here-requires
-    loop-less
-    loop-again
-    enum-known-s-2
-    got-requires
-    same-length
-    returns
-    enum-known-s-3
-    got-requires-2
-    same-length-2
-    returns-2
-    got-requires-3
-    same-length-3
-    returns-3)
+    tie.close (tie.spec Inv-loop μ-loop loop-holds seek-byte-requires enum-known-s get-here-requires loop-less loop-again enum-known-s-2 got-requires same-length returns enum-known-s-3 got-requires-2 same-length-2 returns-2 got-requires-3 same-length-3 returns-3)

@@ -39,8 +39,8 @@ add-e c = search needs
 cast-if1 : tie.Need-cast-if1
 cast-if1 c = search needs
 
-add-t25 : tie.Need-add-t25
-add-t25 c = search needs
+add-t26 : tie.Need-add-t26
+add-t26 c = search needs
 
 same-length : tie.Need-same-length
 same-length c = search needs
@@ -53,14 +53,14 @@ returns c =
     let left = ran .before .before .before .before .before .before .pre .3 in
     (omega arith, gets-here _ _ _ left (least .result) (omega arith) (omega arith) _ (ran .get-run .ensures) _ refl)
 
-add-get-whole : tie.Need-add-get-whole
-add-get-whole c = search needs
+add-t20 : tie.Need-add-t20
+add-t20 c = search needs
 
 get-whole-requires : tie.Need-get-whole-requires
 get-whole-requires c κs = search needs
 
-cast-t16 : tie.Need-cast-t16
-cast-t16 c = search needs
+cast-t17 : tie.Need-cast-t17
+cast-t17 c = search needs
 
 same-length-2 : tie.Need-same-length-2
 same-length-2 c = search needs
@@ -77,24 +77,4 @@ returns-2 c =
 
 pub get-here-spec : {M : Type 1} → statement M
 get-here-spec =
-    tie.close
-    (tie.spec
-    in-use-requires
-    cast-n
-    sub-least
-    cast-least
-    sub-least-2
-    least-requires
-    cast-get-run
-    get-run-requires
-    cast-e
-    add-e
-    cast-if1
-    add-t25
-    same-length
-    returns
-    add-get-whole
-    get-whole-requires
-    cast-t16
-    same-length-2
-    returns-2)
+    tie.close (tie.spec in-use-requires cast-n sub-least cast-least sub-least-2 least-requires cast-get-run get-run-requires cast-e add-e cast-if1 add-t26 same-length returns add-t20 get-whole-requires cast-t17 same-length-2 returns-2)

@@ -74,19 +74,4 @@ loop-again c =
 
 pub seek-byte-spec : {M : Type 1} → statement M
 seek-byte-spec =
-    tie.close
-    (tie.spec
-    Inv-loop
-    μ-loop
-    loop-holds
-    has-byte-requires
-    returns
-    ends-requires
-    returns-2
-    returns-3
-    next-to-enter-requires
-    fits-requires
-    returns-4
-    sub-l
-    loop-less
-    loop-again)
+    tie.close (tie.spec Inv-loop μ-loop loop-holds has-byte-requires returns ends-requires returns-2 returns-3 next-to-enter-requires fits-requires returns-4 sub-l loop-less loop-again)

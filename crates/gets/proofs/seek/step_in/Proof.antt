@@ -40,15 +40,4 @@ returns-5 c =
 
 pub step-in-spec : {M : Type 1} → statement M
 step-in-spec =
-    tie.close
-    (tie.spec
-    has-byte-requires
-    returns
-    ends-requires
-    returns-2
-    returns-3
-    next-to-enter-requires
-    fits-requires
-    returns-4
-    sub-t12
-    returns-5)
+    tie.close (tie.spec has-byte-requires returns ends-requires returns-2 returns-3 next-to-enter-requires fits-requires returns-4 sub-t12 returns-5)

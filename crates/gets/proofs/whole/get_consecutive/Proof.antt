@@ -39,16 +39,4 @@ returns-3 c = search needs
 
 pub get-consecutive-spec : {M : Type 1} → statement M
 get-consecutive-spec =
-    tie.close
-    (tie.spec
-    single-requires
-    get-counted-requires
-    same-length
-    returns
-    double-requires
-    get-counted-requires-2
-    same-length-2
-    returns-2
-    get-counted-requires-3
-    same-length-3
-    returns-3)
+    tie.close (tie.spec single-requires get-counted-requires same-length returns double-requires get-counted-requires-2 same-length-2 returns-2 get-counted-requires-3 same-length-3 returns-3)

@@ -2,7 +2,6 @@ use Rattle.gets.proofs.Counting.{Counting, counting-holds, counting-aga
 use Rattle.gets.proofs.Getting.{room-left}
 use Rattle.image.proofs.Places.{start-after, starts-within}
 use Rattle.layout.proofs.Data.{data-facts}
-use Rattle.layout.proofs.Image.{lawful}
 use Rattle.layout.specs.Image.{geometryOf, view}
 use Rattle.layout.specs.Volume.{dataSector}
 use borrow.Author.Tests.{not-false}
@@ -16,142 +15,117 @@ use Rattle.gets.proofs.whole.get_counted.Statement.{statement}
 use Rattle.gets.proofs.whole.get_counted.Tie as tie
 
 abbrev Inv-loop : tie.InvT-loop
-Inv-loop m image slot sector most buffer₀ from room size end at₀ k₀ i₀ buffer at k i = (length buffer ≡ length buffer₀) × (at ≡ geometryOf m .start k) × (sector < k) × Counting (geometryOf m) (view (geometryOf m) image) slot sector most from buffer₀ (k - sector - 1) i buffer
+Inv-loop m image slot w n buffer₀ room size end at₀ k₀ i₀ buffer at k i = (length buffer ≡ length buffer₀) × (at ≡ geometryOf m .start k) × (w .sector < k) × Counting (geometryOf m) (view (geometryOf m) image) slot w n buffer₀ (k - w .sector - 1) i buffer
 
 abbrev μ-loop : tie.MeasureT-loop
-μ-loop m image slot sector most buffer₀ from room size end at₀ k₀ i₀ buffer at k i = end - k
+μ-loop m image slot w n buffer₀ room size end at₀ k₀ i₀ buffer at k i = end - k
 
 -- sectors are left to count, and the buffer has room
-tested : (c : tie.In-loop Inv-loop μ-loop) → let a = c .before .before .before .before .before .args in let l = c .before .loop in (l .k < a .sector + 1 + a .most) × (a .m .density .room ≤ length (l .buffer) - l .i)
+tested : (c : tie.In-loop Inv-loop μ-loop) → let a = c .before .before .before .before .before .before .before .before .args in let l = c .before .loop in (l .k < a .w .sector + 1 + a .n) × (a .m .density .room ≤ length (l .buffer) - l .i)
 tested c = let l = c .before .loop in room-left _ (l .k) _ (length (l .buffer) - l .i) (c .loop-test .taken)
 
 -- the sector that is looked at is a data sector
 entered : (c : tie.In-loop Inv-loop μ-loop) → dataSector (c .before .loop .k) ≡ true
 entered c =
-    let a = c .before .before .before .before .before in
-    let l = c .before .loop in
+    let sector = c .before .before .before .before .before .before .before .before .args .w .sector in
+    let k = c .before .loop .k in
     let t = tested c in
-    let behind = l .inv .2 in
-    let e : a .args .sector + 1 + (l .k - a .args .sector - 1) ≡ l .k = omega arith in
-    rw e at (a .pre .3 .each (l .k - a .args .sector - 1) (omega arith))
+    let behind = c .before .loop .inv .2 in
+    let e : sector + 1 + (k - sector - 1) ≡ k = omega arith in
+    rw e at (c .before .before .before .before .before .before .before .before .pre .4 .each (k - sector - 1) (omega arith))
 
 add-end : tie.Need-add-end Inv-loop μ-loop
-add-end c = search needs
+add-end c = let top = c .before .before .before .pre .4 .top in omega arith
 
 add-end-2 : tie.Need-add-end-2 Inv-loop μ-loop
-add-end-2 c = search needs
+add-end-2 c = let top = c .before .before .before .pre .4 .top in omega arith
 
 add-start : tie.Need-add-start Inv-loop μ-loop
-add-start c = search needs
+add-start c = let top = c .before .before .before .before .pre .4 .top in omega arith
 
 start-requires : tie.Need-start-requires Inv-loop μ-loop
-start-requires c κs = search needs
+start-requires c κs = let top = c .before .before .before .before .pre .4 .top in omega arith
 
 add-k : tie.Need-add-k Inv-loop μ-loop
-add-k c = search needs
+add-k c = let top = c .before .before .before .before .before .before .pre .4 .top in omega arith
 
 loop-holds : tie.Need-loop-holds Inv-loop μ-loop
 loop-holds c =
-    let a = c .before .before .before in
-    let none : a .args .sector + 1 - a .args .sector - 1 ≡ 0 = omega arith in
-    (refl, c .start .ensures .0, omega arith, rw none (counting-holds (omega arith) (a .pre .4) (a .pre .5)))
+    let p = c .before .before .before .before .before .before .pre in
+    let sector = c .before .before .before .before .before .before .args .w .sector in
+    let none : sector + 1 - sector - 1 ≡ 0 = omega arith in
+    (refl, c .before .start .ensures .0, omega arith, rw none (counting-holds (p .2) (p .5) (p .6)))
 
 sub-loop : tie.Need-sub-loop Inv-loop μ-loop
 sub-loop c = let w = c .loop .inv .3 .within in omega arith
 
 leads-on-requires : tie.Need-leads-on-requires Inv-loop μ-loop
-leads-on-requires c κs =
-    let a = c .before .before .before .before .before in
-    let l = c .before .loop in
-    (a .pre .0, a .pre .1, entered c, l .inv .1)
+leads-on-requires c κs = let p = c .before .before .before .before .before .before .before .before .pre in (p .0, p .1, entered c, c .before .loop .inv .1)
 
 sub-result : tie.Need-sub-result Inv-loop μ-loop
-sub-result c = search needs
+sub-result c = let behind = c .before .before .before .before .loop .inv .2 in omega arith
 
 sub-result-2 : tie.Need-sub-result-2 Inv-loop μ-loop
-sub-result-2 c = search needs
+sub-result-2 c = let behind = c .before .before .before .before .loop .inv .2 in omega arith
 
 same-length : tie.Need-same-length Inv-loop μ-loop
 same-length c = search needs
 
 returns : tie.Need-returns Inv-loop μ-loop
-returns c = counting-done (c .before .before .before .loop .inv .3)
+returns c = counting-done (c .before .before .before .before .loop .inv .3)
 
-get-run-at-requires : tie.Need-get-run-at-requires Inv-loop μ-loop
-get-run-at-requires c κs =
-    let a = c .before .before .before .before .before .before .before .before in
+get-data-requires : tie.Need-get-data-requires Inv-loop μ-loop
+get-data-requires c κs =
     let f = data-facts _ (entered (c .before .before .before)) in
-    let size = lawful _ (a .pre .0 .0) .whole _ (f .pos) in
     let t = tested (c .before .before .before) in
     let w = c .before .before .before .before .loop .inv .3 .within in omega arith
 
 add-k-2 : tie.Need-add-k-2 Inv-loop μ-loop
-add-k-2 c = let t = tested (c .before .before .before .before .before .before) in omega arith
+add-k-2 c = let f = data-facts _ (entered (c .before .before .before .before .before .before)) in omega arith
 
 add-at : tie.Need-add-at Inv-loop μ-loop
 add-at c =
-    let a = c .before .before .before .before .before .before .before .before .before .before .before in
     let f = data-facts _ (entered (c .before .before .before .before .before .before)) in
-    let w = starts-within _ (a .pre .0 .0) _ (f .pos) (omega arith) in omega arith
+    let w = starts-within _ (c .before .before .before .before .before .before .before .before .before .before .before .before .before .before .pre .0 .0) _ (f .pos) (omega arith) in omega arith
 
 add-i : tie.Need-add-i Inv-loop μ-loop
-add-i c = let t = tested (c .before .before .before .before .before .before) in let w = c .before .before .before .before .before .before .before .loop .inv .3 .within in omega arith
+add-i c =
+    let t = tested (c .before .before .before .before .before .before) in
+    let same = c .before .before .before .before .before .before .before .loop .inv .0 in
+    let long = c .before .before .before .before .before .before .before .before .before .before .before .before .before .before .good .1 .1 .1 .1 .1 .0 .0 in omega arith
 
 loop-less : tie.Need-loop-less Inv-loop μ-loop
 loop-less c = let t = tested (c .before .before .before .before .before .before) in omega arith
 
 loop-again : tie.Need-loop-again Inv-loop μ-loop
 loop-again c =
-    let a = c .before .before .before .before .before .before .before .before .before .before .before in
-    let l = c .before .before .before .before .before .before .before .loop in
-    let t = tested (c .before .before .before .before .before .before) in
-    let w = l .inv .3 in
-    let within = w .within in
-    let behind = l .inv .2 in
-    let sector = a .args .sector in
-    let here : sector + 1 + (l .k - sector - 1) ≡ l .k = omega arith in
-    let next : l .k + 1 - sector - 1 ≡ l .k - sector - 1 + 1 = omega arith in
-    let f = data-facts _ (entered (c .before .before .before .before .before .before)) in
-    let s = start-after (a .args .m) (l .k) (f .pos) in
-    (omega arith, omega arith, omega arith, rw next (counting-again w (omega arith) (omega arith) (omega arith) (rw here (sym (c .before .before .before .before .before .leads-on .ensures) ∙ not-false _ (c .before .before .before .before .if1 .left))) _ (rw here (c .before .before .get-run-at .ensures))))
+    let test = (c .before .before .before .before .before .before) in
+    let t = tested test in
+    let regular = c .before .before .before .before .before .before .before .before .before .before .before .before .before .before .pre .0 .0 in
+    let i = c .before .before .before .before .before .before .before .loop .inv in
+    let within = i .3 .within in
+    let same = i .0 in
+    let behind = i .2 in
+    let sector = c .before .before .before .before .before .before .before .before .before .before .before .before .before .before .args .w .sector in
+    let k = c .before .before .before .before .before .before .before .loop .k in
+    let here : sector + 1 + (k - sector - 1) ≡ k = omega arith in
+    let next : k + 1 - sector - 1 ≡ k - sector - 1 + 1 = omega arith in
+    let f = data-facts _ (entered test) in
+    let s = start-after (c .before .before .before .before .before .before .before .before .before .before .before .before .before .before .args .m) k (f .pos) in
+    (omega arith, omega arith, omega arith, rw next (counting-again (i .3) (c .before .before .before .before .before .before .before .before .before .before .before .before .before .before .pre .3) (omega arith) (omega arith) (omega arith) (rw here (sym (c .before .before .before .before .before .leads-on .ensures) ∙ not-false _ (c .before .before .before .before .if1 .left))) _ (rw here (c .before .before .get-data .ensures))))
 
 sub-result-3 : tie.Need-sub-result-3 Inv-loop μ-loop
-sub-result-3 c = search needs
+sub-result-3 c = let behind = c .before .before .loop .inv .2 in omega arith
 
 sub-result-4 : tie.Need-sub-result-4 Inv-loop μ-loop
-sub-result-4 c = search needs
+sub-result-4 c = let behind = c .before .before .loop .inv .2 in omega arith
 
 same-length-2 : tie.Need-same-length-2 Inv-loop μ-loop
 same-length-2 c = search needs
 
 returns-2 : tie.Need-returns-2 Inv-loop μ-loop
-returns-2 c = counting-done (c .before .loop .inv .3)
+returns-2 c = counting-done (c .before .before .loop .inv .3)
 
 pub get-counted-spec : {M : Type 1} → statement M
 get-counted-spec =
-    tie.close
-    (tie.spec
-    Inv-loop
-    μ-loop
-    add-end
-    add-end-2
-    add-start
-    start-requires
-    add-k
-    loop-holds
-    sub-loop
-    leads-on-requires
-    sub-result
-    sub-result-2
-    same-length
-    returns
-    get-run-at-requires
-    add-k-2
-    add-at
-    add-i
-    loop-less
-    loop-again
-    sub-result-3
-    sub-result-4
-    same-length-2
-    returns-2)
+    tie.close (tie.spec Inv-loop μ-loop add-end add-end-2 add-start start-requires add-k loop-holds sub-loop leads-on-requires sub-result sub-result-2 same-length returns get-data-requires add-k-2 add-at add-i loop-less loop-again sub-result-3 sub-result-4 same-length-2 returns-2)

@@ -35,12 +35,4 @@ returns c =
 
 pub leads-on-spec : {M : Type 1} → statement M
 leads-on-spec =
-    tie.close
-    (tie.spec
-    link-at-requires
-    used-at-requires
-    cast-used
-    mul-result
-    add-result
-    add-result-2
-    returns)
+    tie.close (tie.spec link-at-requires used-at-requires cast-used mul-result add-result add-result-2 returns)

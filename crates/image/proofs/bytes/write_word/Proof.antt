@@ -27,12 +27,4 @@ returns c = cc
 
 pub write-word-spec : {M : Type 1} → statement M
 write-word-spec =
-    tie.close
-    (tie.spec
-    cast-write-byte
-    write-byte-requires
-    add-write-byte
-    cast-write-byte-2
-    write-byte-requires-2
-    same-length
-    returns)
+    tie.close (tie.spec cast-write-byte write-byte-requires add-write-byte cast-write-byte-2 write-byte-requires-2 same-length returns)

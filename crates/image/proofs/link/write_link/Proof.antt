@@ -33,14 +33,4 @@ returns c = cc
 
 pub write-link-spec : {M : Type 1} → statement M
 write-link-spec =
-    tie.close
-    (tie.spec
-    mul-write-file-byte
-    add-write-file-byte
-    cast-write-file-byte
-    write-file-byte-requires
-    add-write-file-byte-2
-    cast-write-file-byte-2
-    write-file-byte-requires-2
-    same-length
-    returns)
+    tie.close (tie.spec mul-write-file-byte add-write-file-byte cast-write-file-byte write-file-byte-requires add-write-file-byte-2 cast-write-file-byte-2 write-file-byte-requires-2 same-length returns)

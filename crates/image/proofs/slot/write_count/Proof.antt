@@ -24,11 +24,4 @@ returns c = cc
 
 pub write-count-spec : {M : Type 1} → statement M
 write-count-spec =
-    tie.close
-    (tie.spec
-    cast-write-entry
-    write-entry-requires
-    cast-write-entry-2
-    write-entry-requires-2
-    same-length
-    returns)
+    tie.close (tie.spec cast-write-entry write-entry-requires cast-write-entry-2 write-entry-requires-2 same-length returns)

@@ -27,12 +27,4 @@ returns c = cc
 
 pub write-entry-spec : {M : Type 1} → statement M
 write-entry-spec =
-    tie.close
-    (tie.spec
-    add-write-byte
-    cast-write-byte
-    mul-write-byte
-    add-write-byte-2
-    write-byte-requires
-    same-length
-    returns)
+    tie.close (tie.spec add-write-byte cast-write-byte mul-write-byte add-write-byte-2 write-byte-requires same-length returns)

@@ -96,22 +96,4 @@ returns-3 c =
 
 pub open-new-spec : {M : Type 1} → statement M
 open-new-spec =
-    tie.close
-    (tie.spec
-    new-slot-requires
-    enum-known-f
-    enum-told
-    answer-requires
-    same-length
-    returns
-    lowest-free-requires
-    answer-requires-2
-    same-length-2
-    returns-2
-    write-flag-requires
-    write-name-requires
-    give-requires
-    with-state-requires
-    answer-requires-3
-    same-length-3
-    returns-3)
+    tie.close (tie.spec new-slot-requires enum-known-f enum-told answer-requires same-length returns lowest-free-requires answer-requires-2 same-length-2 returns-2 write-flag-requires write-name-requires give-requires with-state-requires answer-requires-3 same-length-3 returns-3)

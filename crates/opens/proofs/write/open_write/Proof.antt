@@ -1,51 +1,41 @@
 use mathlib.Core.Path.{_≡_, refl, sym, ap, _∙_, subst}
 use borrow.Author.Needs.{needs}
 use Rattle.layout.specs.Image.{geometryOf, view}
-use Rattle.layout.specs.Names.{readName}
 use Rattle.rules.specs.declared.Target.{Target}
-use Rattle.rules.specs.Commands.{target, openTarget, openWrite}
+use Rattle.rules.specs.Commands.{openTarget, openWrite}
 use Rattle.rules.proofs.Aimed.{OnGood, target-good}
 use Rattle.commands.specs.InSlot.{InSlot}
 use Rattle.rules.proofs.Told.{told, told-disk}
 use Rattle.opens.proofs.write.open_write.Statement.{statement}
 use Rattle.opens.proofs.write.open_write.Tie as tie
 
--- the target found is that of the name in the text
-aim : (c : tie.After-find-target) → let a = c .before .before .before .before .before .args in c .find-target .result ≡ target (view (geometryOf (a .m)) (a .image .now)) (readName (a .text .now))
-aim c = c .find-target .ensures .0 .0 ∙ ap (target _) (c .before .read-name .ensures .0)
-
 -- the call goes on by the case of the target found
-target-is : (c : tie.After-find-target) → let a = c .before .before .before .before .before .args in (x : Target) → c .find-target .result ≡ x → openWrite (geometryOf (a .m)) (view (geometryOf (a .m)) (a .image .now)) (a .t) (a .channel) (a .text .now) ≡ openTarget (geometryOf (a .m)) (view (geometryOf (a .m)) (a .image .now)) (a .t) (a .channel) x
+target-is : (c : tie.After-find-named) → let a = c .before .before .before .before .args in (x : Target) → c .find-named .result ≡ x → openWrite (geometryOf (a .m)) (view (geometryOf (a .m)) (a .image .now)) (a .t) (a .channel) (a .text .now) ≡ openTarget (geometryOf (a .m)) (view (geometryOf (a .m)) (a .image .now)) (a .t) (a .channel) x
 unfolding openWrite
-target-is c = λ x q. ap (openTarget _ _ _ _) (sym (aim c) ∙ q)
+target-is c = λ x q. ap (openTarget _ _ _ _) (sym (c .find-named .ensures .0 .0) ∙ q)
 
 -- the table is good where the target found has a slot or a missing name
-on-good : (c : tie.After-find-target) → let a = c .before .before .before .before .before .args in OnGood (view (geometryOf (a .m)) (a .image .now)) (c .find-target .result)
-on-good c = subst (OnGood _) (sym (aim c)) (target-good _ _)
+on-good : (c : tie.After-find-named) → let a = c .before .before .before .before .args in OnGood (view (geometryOf (a .m)) (a .image .now)) (c .find-named .result)
+on-good c = subst (OnGood _) (sym (c .find-named .ensures .0 .0)) (target-good _ _)
 
-read-name-requires : tie.Need-read-name-requires
-read-name-requires c κs = search needs
-
-find-target-requires : tie.Need-find-target-requires
-find-target-requires c κs = search needs
+find-named-requires : tie.Need-find-named-requires
+find-named-requires c κs = search needs
 
 enum-known-a : tie.Need-enum-known-a
 enum-known-a c = search needs
 
 open-found-requires : tie.Need-open-found-requires
 open-found-requires c κs =
-    let p1 = c .before .before .before .before in
-    let p2 = p1 .before .before .before .before .before in
-    (p2 .pre .0, p2 .pre .1, subst InSlot (c .before .before .a .given .1) (p1 .find-target .ensures .1), subst (OnGood _) (c .before .before .a .given .1) (on-good p1))
+    let pre = c .before .before .before .before .before .before .before .before .pre in
+    (pre .0, pre .1, subst InSlot (c .before .before .a .given .1) (c .before .before .before .before .find-named .ensures .1), subst (OnGood _) (c .before .before .a .given .1) (on-good (c .before .before .before .before)))
 
 enum-known-a-2 : tie.Need-enum-known-a-2
 enum-known-a-2 c = search needs
 
 open-new-requires : tie.Need-open-new-requires
 open-new-requires c κs =
-    let p1 = c .before .before .before .before in
-    let p2 = p1 .before .before .before .before .before in
-    (p2 .pre .0, p2 .pre .1, subst (OnGood _) (c .before .before .a2 .given .1) (on-good p1))
+    let pre = c .before .before .before .before .before .before .before .before .pre in
+    (pre .0, pre .1, subst (OnGood _) (c .before .before .a2 .given .1) (on-good (c .before .before .before .before)))
 
 enum-known-a-3 : tie.Need-enum-known-a-3
 enum-known-a-3 c = search needs
@@ -58,18 +48,14 @@ same-length c = search needs
 
 returns : tie.Need-returns
 unfolding openTarget
-returns c =
-    let p1 = c .before .before .before .before .before in
-    let r = c .before .before .open-found .ensures in let e = target-is (p1 .before .before) _ (p1 .a .given .1) in (told _ e (r .0), told-disk _ e (r .1))
+returns c = let e = target-is (c .before .before .before .before .before .before .before) _ (c .before .before .before .before .before .a .given .1) in (told _ e (c .before .before .open-found .ensures .0), told-disk _ e (c .before .before .open-found .ensures .1))
 
 same-length-2 : tie.Need-same-length-2
 same-length-2 c = search needs
 
 returns-2 : tie.Need-returns-2
 unfolding openTarget
-returns-2 c =
-    let p1 = c .before .before .before .before .before in
-    let r = c .before .before .open-new .ensures in let e = target-is (p1 .before .before) _ (p1 .a2 .given .1) in (told _ e (r .0), told-disk _ e (r .1))
+returns-2 c = let e = target-is (c .before .before .before .before .before .before .before) _ (c .before .before .before .before .before .a2 .given .1) in (told _ e (c .before .before .open-new .ensures .0), told-disk _ e (c .before .before .open-new .ensures .1))
 
 same-length-3 : tie.Need-same-length-3
 same-length-3 c = search needs
@@ -80,19 +66,4 @@ returns-3 c = let e = target-is (c .before .before .before .before) _ (c .before
 
 pub open-write-spec : {M : Type 1} → statement M
 open-write-spec =
-    tie.close
-    (tie.spec
-    read-name-requires
-    find-target-requires
-    enum-known-a
-    open-found-requires
-    enum-known-a-2
-    open-new-requires
-    enum-known-a-3
-    answer-requires
-    same-length
-    returns
-    same-length-2
-    returns-2
-    same-length-3
-    returns-3)
+    tie.close (tie.spec find-named-requires enum-known-a open-found-requires enum-known-a-2 open-new-requires enum-known-a-3 answer-requires same-length returns same-length-2 returns-2 same-length-3 returns-3)

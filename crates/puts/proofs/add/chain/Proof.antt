@@ -32,12 +32,4 @@ returns c = cc
 
 pub chain-spec : {M : Type 1} → statement M
 chain-spec =
-    tie.close
-    (tie.spec
-    mark-used-requires
-    write-link-requires
-    cast-write-in-use
-    write-in-use-requires
-    write-run-requires
-    same-length
-    returns)
+    tie.close (tie.spec mark-used-requires write-link-requires cast-write-in-use write-in-use-requires write-run-requires same-length returns)

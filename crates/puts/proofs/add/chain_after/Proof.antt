@@ -47,16 +47,4 @@ returns-3 c = search needs
 
 pub chain-after-spec : {M : Type 1} → statement M
 chain-after-spec =
-    tie.close
-    (tie.spec
-    single-requires
-    chain-next-requires
-    double-requires
-    chain-next-requires-2
-    chain-next-requires-3
-    same-length
-    returns
-    same-length-2
-    returns-2
-    same-length-3
-    returns-3)
+    tie.close (tie.spec single-requires chain-next-requires double-requires chain-next-requires-2 chain-next-requires-3 same-length returns same-length-2 returns-2 same-length-3 returns-3)

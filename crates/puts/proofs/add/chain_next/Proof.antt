@@ -42,22 +42,9 @@ same-length c = search needs
 
 returns : tie.Need-returns
 returns c =
-    let a = c .before .before .before .before .before .before .before .args in
-    c .before .before .chain .ensures ∙ rw (add-sub-cancel-left (a .from + (a .prev - a .last) * a .m .density .room) (a .m .density .room))
+    let a = c .before .before .before .before .before .before .before .before .before .args in
+    c .before .before .chain .ensures ∙ rw (add-sub-cancel-left (a .w .count + (a .prev - a .w .sector) * a .m .density .room) (a .m .density .room))
 
 pub chain-next-spec : {M : Type 1} → statement M
 chain-next-spec =
-    tie.close
-    (tie.spec
-    sub-byte
-    cast-byte
-    mul-byte
-    add-byte
-    add-end
-    add-chain
-    sub-chain
-    part-chain-start
-    part-chain-end
-    chain-requires
-    same-length
-    returns)
+    tie.close (tie.spec sub-byte cast-byte mul-byte add-byte add-end add-chain sub-chain part-chain-start part-chain-end chain-requires same-length returns)

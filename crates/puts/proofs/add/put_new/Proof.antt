@@ -82,14 +82,4 @@ returns-2 c =
 
 pub put-new-spec : {M : Type 1} → statement M
 put-new-spec =
-    tie.close
-    (tie.spec
-    lowest-free-requires
-    added-requires
-    same-length
-    returns
-    give-requires
-    add-run-requires
-    added-requires-2
-    same-length-2
-    returns-2)
+    tie.close (tie.spec lowest-free-requires added-requires same-length returns give-requires add-run-requires added-requires-2 same-length-2 returns-2)

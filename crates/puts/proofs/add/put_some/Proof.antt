@@ -58,18 +58,4 @@ returns-3 c = search needs
 
 pub put-some-spec : {M : Type 1} → statement M
 put-some-spec =
-    tie.close
-    (tie.spec
-    in-use-requires
-    cast-had
-    add-if1
-    add-run-requires
-    added-requires
-    same-length
-    returns
-    put-new-requires
-    same-length-2
-    returns-2
-    put-from-requires
-    same-length-3
-    returns-3)
+    tie.close (tie.spec in-use-requires cast-had add-if1 add-run-requires added-requires same-length returns put-new-requires same-length-2 returns-2 put-from-requires same-length-3 returns-3)

@@ -61,16 +61,4 @@ returns-3 c =
 
 pub room-spec : {M : Type 1} → statement M
 room-spec =
-    tie.close
-    (tie.spec
-    in-use-requires
-    cast-if1
-    same-length
-    returns
-    lowest-from-requires
-    same-length-2
-    returns-2
-    give-requires
-    add-t19
-    same-length-3
-    returns-3)
+    tie.close (tie.spec in-use-requires cast-if1 same-length returns lowest-from-requires same-length-2 returns-2 give-requires add-t19 same-length-3 returns-3)

@@ -36,15 +36,4 @@ returns c = cc
 
 pub settle-spec : {M : Type 1} → statement M
 settle-spec =
-    tie.close
-    (tie.spec
-    write-link-requires
-    count-requires
-    cast-write-count
-    add-write-count
-    write-count-requires
-    free-count-requires
-    less-requires
-    write-free-count-requires
-    same-length
-    returns)
+    tie.close (tie.spec write-link-requires count-requires cast-write-count add-write-count write-count-requires free-count-requires less-requires write-free-count-requires same-length returns)

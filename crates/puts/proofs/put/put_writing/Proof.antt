@@ -73,19 +73,4 @@ returns-4 c =
 
 pub put-writing-spec : {M : Type 1} → statement M
 put-writing-spec =
-    tie.close
-    (tie.spec
-    writing-requires
-    returns
-    table-good-requires
-    writing-requires-2
-    same-length
-    returns-2
-    writable-requires
-    writing-requires-3
-    same-length-2
-    returns-3
-    put-some-requires
-    writing-requires-4
-    same-length-3
-    returns-4)
+    tie.close (tie.spec writing-requires returns table-good-requires writing-requires-2 same-length returns-2 writable-requires writing-requires-3 same-length-2 returns-3 put-some-requires writing-requires-4 same-length-3 returns-4)

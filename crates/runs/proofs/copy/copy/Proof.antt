@@ -43,16 +43,4 @@ returns-3 c =
 
 pub copy-spec : {M : Type 1} → statement M
 copy-spec =
-    tie.close
-    (tie.spec
-    sub-copy-and-last
-    copy-and-last-requires
-    sub-copy-parts
-    copy-parts-requires
-    copy-first-requires
-    same-length
-    returns
-    same-length-2
-    returns-2
-    same-length-3
-    returns-3)
+    tie.close (tie.spec sub-copy-and-last copy-and-last-requires sub-copy-parts copy-parts-requires copy-first-requires same-length returns same-length-2 returns-2 same-length-3 returns-3)

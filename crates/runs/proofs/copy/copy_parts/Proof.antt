@@ -47,15 +47,4 @@ returns c =
 
 pub copy-parts-spec : {M : Type 1} → statement M
 copy-parts-spec =
-    tie.close
-    (tie.spec
-    copy-first-requires
-    sub-n
-    add-end
-    add-copy-first
-    sub-copy-first
-    part-copy-first-start
-    part-copy-first-end
-    copy-first-requires-2
-    same-length
-    returns)
+    tie.close (tie.spec copy-first-requires sub-n add-end add-copy-first sub-copy-first part-copy-first-start part-copy-first-end copy-first-requires-2 same-length returns)

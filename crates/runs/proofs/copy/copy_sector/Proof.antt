@@ -41,14 +41,4 @@ returns-3 c =
 
 pub copy-sector-spec : {M : Type 1} → statement M
 copy-sector-spec =
-    tie.close
-    (tie.spec
-    copy-first-requires
-    copy-first-requires-2
-    copy-first-requires-3
-    same-length
-    returns
-    same-length-2
-    returns-2
-    same-length-3
-    returns-3)
+    tie.close (tie.spec copy-first-requires copy-first-requires-2 copy-first-requires-3 same-length returns same-length-2 returns-2 same-length-3 returns-3)

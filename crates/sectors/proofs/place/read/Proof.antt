@@ -38,13 +38,4 @@ returns c =
 
 pub read-spec : {M : Type 1} → statement M
 read-spec =
-    tie.close
-    (tie.spec
-    sector-start-requires
-    add-end
-    sub-copy-sector
-    part-copy-sector-start
-    part-copy-sector-end
-    copy-sector-requires
-    same-length
-    returns)
+    tie.close (tie.spec sector-start-requires add-end sub-copy-sector part-copy-sector-start part-copy-sector-end copy-sector-requires same-length returns)

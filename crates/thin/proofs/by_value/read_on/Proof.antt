@@ -35,12 +35,4 @@ returns-2 c = let e = served-not {A = GetOutcome} _ _ _ (sym (c .before .before 
 
 pub read-on-spec : {M : Type 1} → statement M
 read-on-spec =
-    tie.close
-    (tie.spec
-    served-as-requires
-    enum-known-v
-    read-served-requires
-    enum-known-v-2
-    same-length
-    returns
-    returns-2)
+    tie.close (tie.spec served-as-requires enum-known-v read-served-requires enum-known-v-2 same-length returns returns-2)

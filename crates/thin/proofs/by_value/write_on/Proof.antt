@@ -39,13 +39,4 @@ returns-2 c = let e = served-not {A = ImagePutOutcome} _ _ _ (sym (c .before .be
 
 pub write-on-spec : {M : Type 1} → statement M
 write-on-spec =
-    tie.close
-    (tie.spec
-    served-as-requires
-    enum-known-v
-    write-served-requires
-    enum-known-v-2
-    same-length
-    returns
-    same-length-2
-    returns-2)
+    tie.close (tie.spec served-as-requires enum-known-v write-served-requires enum-known-v-2 same-length returns same-length-2 returns-2)

@@ -69,24 +69,4 @@ returns-5 c = rw (c .before .before .before .before .before .st2 .given .1) (sym
 
 pub leave-state-spec : {M : Type 1} → statement M
 leave-state-spec =
-    tie.close
-    (tie.spec
-    enum-told
-    slice-read-if1
-    slice-read-if1-2
-    write-words-requires
-    enum-known-st
-    write-words-requires-2
-    enum-known-st-2
-    slice-read-same
-    slice-read-same-2
-    slice-read-same-3
-    write-words-requires-3
-    same-length
-    returns
-    returns-2
-    same-length-2
-    returns-3
-    same-length-3
-    returns-4
-    returns-5)
+    tie.close (tie.spec enum-told slice-read-if1 slice-read-if1-2 write-words-requires enum-known-st write-words-requires-2 enum-known-st-2 slice-read-same slice-read-same-2 slice-read-same-3 write-words-requires-3 same-length returns returns-2 same-length-2 returns-3 same-length-3 returns-4 returns-5)

@@ -44,15 +44,4 @@ returns-3 c =
 
 pub state-in-spec : {M : Type 1} → statement M
 state-in-spec =
-    tie.close
-    (tie.spec
-    shared-slice-read-kind
-    shared-slice-read-t7
-    shared-slice-read-t9
-    shared-slice-read-t11
-    shared-slice-read-t13
-    returns
-    shared-slice-read-t15
-    shared-slice-read-t17
-    returns-2
-    returns-3)
+    tie.close (tie.spec shared-slice-read-kind shared-slice-read-t7 shared-slice-read-t9 shared-slice-read-t11 shared-slice-read-t13 returns shared-slice-read-t15 shared-slice-read-t17 returns-2 returns-3)

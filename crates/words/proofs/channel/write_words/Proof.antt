@@ -43,17 +43,4 @@ returns c = five-set (c .args .words .now) (c .args .t2) (c .pre) (search needs)
 
 pub write-words-spec : {M : Type 1} → statement M
 write-words-spec =
-    tie.close
-    (tie.spec
-    array-read-words
-    slice-write-words
-    array-read-words-2
-    slice-write-words-2
-    array-read-words-3
-    slice-write-words-3
-    array-read-words-4
-    slice-write-words-4
-    array-read-words-5
-    slice-write-words-5
-    same-length
-    returns)
+    tie.close (tie.spec array-read-words slice-write-words array-read-words-2 slice-write-words-2 array-read-words-3 slice-write-words-3 array-read-words-4 slice-write-words-4 array-read-words-5 slice-write-words-5 same-length returns)

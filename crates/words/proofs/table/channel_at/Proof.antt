@@ -36,13 +36,4 @@ returns c =
 
 pub channel-at-spec : {M : Type 1} → statement M
 channel-at-spec =
-    tie.close
-    (tie.spec
-    mul-at
-    add-end
-    mul-state-in
-    sub-state-in
-    part-state-in-start
-    part-state-in-end
-    state-in-requires
-    returns)
+    tie.close (tie.spec mul-at add-end mul-state-in sub-state-in part-state-in-start part-state-in-end state-in-requires returns)

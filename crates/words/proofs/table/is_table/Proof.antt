@@ -84,23 +84,4 @@ returns-2 c =
 
 pub is-table-spec : {M : Type 1} → statement M
 is-table-spec =
-    tie.close
-    (tie.spec
-    returns
-    shared-slice-read-in-force
-    in-force-requires
-    shared-slice-read-in-force-2
-    in-force-requires-2
-    shared-slice-read-in-force-3
-    in-force-requires-3
-    shared-slice-read-in-force-4
-    in-force-requires-4
-    shared-slice-read-in-force-5
-    in-force-requires-5
-    shared-slice-read-in-force-6
-    in-force-requires-6
-    shared-slice-read-in-force-7
-    in-force-requires-7
-    shared-slice-read-in-force-8
-    in-force-requires-8
-    returns-2)
+    tie.close (tie.spec returns shared-slice-read-in-force in-force-requires shared-slice-read-in-force-2 in-force-requires-2 shared-slice-read-in-force-3 in-force-requires-3 shared-slice-read-in-force-4 in-force-requires-4 shared-slice-read-in-force-5 in-force-requires-5 shared-slice-read-in-force-6 in-force-requires-6 shared-slice-read-in-force-7 in-force-requires-7 shared-slice-read-in-force-8 in-force-requires-8 returns-2)

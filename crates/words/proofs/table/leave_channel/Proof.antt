@@ -38,14 +38,4 @@ returns c =
 
 pub leave-channel-spec : {M : Type 1} → statement M
 leave-channel-spec =
-    tie.close
-    (tie.spec
-    mul-at
-    add-end
-    mul-leave-state
-    sub-leave-state
-    part-leave-state-start
-    part-leave-state-end
-    leave-state-requires
-    same-length
-    returns)
+    tie.close (tie.spec mul-at add-end mul-leave-state sub-leave-state part-leave-state-start part-leave-state-end leave-state-requires same-length returns)

@@ -33,14 +33,4 @@ returns c = cc
 
 pub table-of-spec : {M : Type 1} → statement M
 table-of-spec =
-    tie.close
-    (tie.spec
-    channel-at-requires
-    channel-at-requires-2
-    channel-at-requires-3
-    channel-at-requires-4
-    channel-at-requires-5
-    channel-at-requires-6
-    channel-at-requires-7
-    channel-at-requires-8
-    returns)
+    tie.close (tie.spec channel-at-requires channel-at-requires-2 channel-at-requires-3 channel-at-requires-4 channel-at-requires-5 channel-at-requires-6 channel-at-requires-7 channel-at-requires-8 returns)

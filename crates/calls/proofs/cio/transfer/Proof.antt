@@ -1,8 +1,8 @@
 use mathlib.Core.Path.{refl}
 use Rattle.rules.specs.Cio.{getAt, transfer}
 use borrow.Author.Needs.{needs}
-use Rattle.calls.proofs.channel.transfer.Statement.{statement}
-use Rattle.calls.proofs.channel.transfer.Tie as tie
+use Rattle.calls.proofs.cio.transfer.Statement.{statement}
+use Rattle.calls.proofs.cio.transfer.Tie as tie
 
 enum-told : tie.Need-enum-told
 enum-told c = search needs
@@ -38,15 +38,4 @@ returns-2 c = rw (c .before .before .before .before .before .enum-told2 .given .
 
 pub transfer-spec : {M : Type 1} → statement M
 transfer-spec =
-    tie.close
-    (tie.spec
-    enum-told
-    get-at-requires
-    enum-told-2
-    put-at-requires
-    same-length
-    same-length-2
-    returns
-    same-length-3
-    same-length-4
-    returns-2)
+    tie.close (tie.spec enum-told get-at-requires enum-told-2 put-at-requires same-length same-length-2 returns same-length-3 same-length-4 returns-2)

@@ -1,0 +1,40 @@
+-- `behind` is safe and ends: each turn leaves one byte less.
+use Prim.Native.Nat.{_≤_, _-_}
+use lib.ListN.{length}
+use borrow.Author.Needs.{needs}
+use Rattle.examples.proofs.order.behind.Statement.{statement}
+use Rattle.examples.proofs.order.behind.Tie as tie
+
+abbrev Inv-loop : tie.InvT-loop
+Inv-loop order from at₀ at = at ≤ length order
+
+abbrev μ-loop : tie.MeasureT-loop
+μ-loop order from at₀ at = length order - at
+
+loop-holds : tie.Need-loop-holds Inv-loop μ-loop
+loop-holds c = search needs
+
+add-at : tie.Need-add-at Inv-loop μ-loop
+add-at c = search needs
+
+sub-if1 : tie.Need-sub-if1 Inv-loop μ-loop
+sub-if1 c = search needs
+
+shared-slice-read-if1 : tie.Need-shared-slice-read-if1 Inv-loop μ-loop
+shared-slice-read-if1 c = search needs
+
+returns : tie.Need-returns Inv-loop μ-loop
+returns c = search needs
+
+loop-less : tie.Need-loop-less Inv-loop μ-loop
+loop-less c = search needs
+
+loop-again : tie.Need-loop-again Inv-loop μ-loop
+loop-again c = search needs
+
+returns-2 : tie.Need-returns-2 Inv-loop μ-loop
+returns-2 c = search needs
+
+pub behind-spec : {M : Type 1} → statement M
+behind-spec =
+    tie.close (tie.spec Inv-loop μ-loop loop-holds add-at sub-if1 shared-slice-read-if1 returns loop-less loop-again returns-2)
