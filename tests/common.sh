@@ -87,6 +87,19 @@ stand_in() {
     echo "$top:$built" >"$place/crates.txt"
 }
 
+# Where edit $2 names the example that has to refuse it, `example: NAME`, only that one of the computed examples is left in
+# repository $1: together they take longer than all else that an edit of a definition touches. Fails where there is none of that name.
+only_example() {
+    local name file=$1/crates/rules/specs/Examples.antt
+    name=$(sed -n 's/^example: //p' "$2")
+    [ -n "$name" ] || return 0
+    grep -q "^$name = refl\$" "$file" || return 1
+    awk -v kept="$name = refl" '
+        BEGIN { RS = ""; ORS = "\n\n" }
+        { last = $0; sub(/.*\n/, "", last) }
+        last !~ / = refl$/ || last == kept' "$file" >"$file.new" && mv "$file.new" "$file"
+}
+
 # Checks crate $2 in the repository $1, with the copies named after that passed as source.
 check_in() {
     local place=$1 top=$2 crate libs=()

@@ -44,8 +44,8 @@ try() {
     log=$root/target/must-fail/$crate/$name/.log
     mkdir -p "$(dirname "$log")"
     stand_in "$place" "$crate" "$crate"
-    if ! apply "$edit" "$place/crates" "$crate"; then
-        echo "must-fail $crate/$name: BAD EDIT: an old text is not in its file exactly once" >"$place.res"
+    if ! only_example "$place" "$edit" || ! apply "$edit" "$place/crates" "$crate"; then
+        echo "must-fail $crate/$name: BAD EDIT: an old text is not in its file exactly once, or there is no such example" >"$place.res"
     elif check_in "$place" "$crate" >"$log" 2>&1; then
         echo "must-fail $crate/$name: NOT REFUSED: the crate is still proved with this edit" >"$place.res"
     elif ! grep -q '^logic=not-proved' "$log"; then

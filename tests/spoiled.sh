@@ -1,7 +1,7 @@
 #!/usr/bin/env bash
 # Spoiled definitions. Each tests/spoiled/*.edit names a crate, a change of one of its definitions, and the crate above it
 # that must be refused for it, with the file in which the refusal has to stand: `crate:`, `file:`, `old:`, `new:` (one line
-# each, old and new in pairs), `refused:`, `at:`.
+# each, old and new in pairs), `refused:`, `at:`; where a computed example has to refuse it, `example:` with the example's name.
 #   tests/spoiled.sh         every edit, after rt ci
 #   tests/spoiled.sh NAME    one of them; what has changed is proved first
 # The crates up to the refused one are copied aside, the change is made in the copy, and all that it touches is checked in one run:
@@ -69,8 +69,8 @@ try() {
     copies=$(copies_for "$refused")
     stand_in "$place" "$refused" $copies
     case $at in proofs/*) without_examples "$place" ;; esac
-    if ! apply "$edit" "$place/crates"; then
-        echo "spoiled $name: BAD EDIT: an old text is not in its file exactly once" >"$place.res"
+    if ! only_example "$place" "$edit" || ! apply "$edit" "$place/crates"; then
+        echo "spoiled $name: BAD EDIT: an old text is not in its file exactly once, or there is no such example" >"$place.res"
     elif check_in "$place" "$refused" $copies >"$log" 2>&1; then
         echo "spoiled $name: NOT REFUSED by $refused" >"$place.res"
     else
