@@ -62,6 +62,7 @@ fn transfer_first(
     dos_cio(image, words, 0, command, 0, b"", &mut bytes[0..n])
 }
 
+// The second and the third of these bytes, where there are so many. Not within the function above: as a call it leaves their number known.
 fn begin(bytes: &mut [u8]) {
     if 2 < bytes.len() {
         bytes[1] = b'Y';
