@@ -38,10 +38,11 @@ unedited() {
 
 # Tries edit $2 of crate $1; writes its verdict to $work/CRATE.NAME.res and its log beside those of rt.
 try() {
-    local crate=$1 edit=$2 name place log first
+    local crate=$1 edit=$2 name place log first example
     name=$(basename "$edit" .edit)
     place=$work/$crate.$name
     log=$root/target/must-fail/$crate/$name/.log
+    example=$(sed -n 's/^example: //p' "$edit")
     mkdir -p "$(dirname "$log")"
     stand_in "$place" "$crate" "$crate"
     if ! only_example "$place" "$edit" || ! apply "$edit" "$place/crates" "$crate"; then
@@ -50,6 +51,8 @@ try() {
         echo "must-fail $crate/$name: NOT REFUSED: the crate is still proved with this edit" >"$place.res"
     elif ! grep -q '^logic=not-proved' "$log"; then
         echo "must-fail $crate/$name: BAD EDIT: it did not reach the prover: $(tail -n 1 "$log" | cut -c1-1000)" >"$place.res"
+    elif [ -n "$example" ] && ! grep -q "/specs/Examples.antt:.*: error: \`$example\`" "$log"; then
+        echo "must-fail $crate/$name: NOT REFUSED by the example $example" >"$place.res"
     else
         first=$(grep -m 1 -oE '^(note: )?[^ ]+:[0-9]+:[0-9]+: (error|it is not proved)' "$log" | sed -E 's/^note: //; s/: (error|it is.*)$//')
         echo "refused: must-fail $crate/$name, as it must be (first at ${first#"$place/crates/$crate/"})" >"$place.res"
