@@ -19,7 +19,7 @@ unfolding deleteAt
 returns c = let e = passing-not _ _ _ (c .before .before .may-free .ensures) (c .before .if1 .taken) in (told _ e (c .answer .ensures), told-disk _ e refl)
 
 delete-requires : tie.Need-delete-requires
-delete-requires c κs = (c .before .before .before .before .before .pre .0, c .before .before .before .before .before .pre .1, may-free _ _ _ _ (sym (c .before .before .may-free .ensures) ∙ c .before .if1 .left) .1)
+delete-requires c κs = let pre = c .before .before .before .before .before .pre in (pre .0, pre .1, may-free _ _ _ _ (sym (c .before .before .may-free .ensures) ∙ c .before .if1 .left) .1)
 
 answer-requires-2 : tie.Need-answer-requires-2
 answer-requires-2 c κs = search needs

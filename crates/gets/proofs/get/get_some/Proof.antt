@@ -10,7 +10,7 @@ use Rattle.gets.proofs.get.get_some.Statement.{statement}
 use Rattle.gets.proofs.get.get_some.Tie as tie
 
 -- the sector that was entered holds the bytes that are wanted
-held : (c : tie.Then1) → let near = c .before .before .step-in .result in (4 ≤ near .sector) × (near .sector ≤ 720) × (near .offset + length (c .before .before .before .before .before .args .buffer .now) ≤ c .before .before .before .before .before .args .m .density .room)
+held : (c : tie.Then1) → let near = c .before .before .step-in .result in let a = c .before .before .before .before .before .args in (4 ≤ near .sector) × (near .sector ≤ 720) × (near .offset + length (a .buffer .now) ≤ a .m .density .room)
 held c =
     let h = at-hand _ _ _ _ _ (sym (c .before .at-hand .ensures) ∙ c .if1 .taken) in
     let t = c .before .before .step-in .ensures .0 in
@@ -46,7 +46,8 @@ same-length c = search needs
 returns : tie.Need-returns
 returns c =
     let near = c .before .before .before .before .before .before .before .step-in .ensures in
-    let same = get-same _ _ _ _ _ _ _ (c .before .before .before .before .before .before .before .before .before .before .args .buffer .now) (c .before .before .before .before .before .before .before .before .before .before .pre .2) (near .1) in
+    let start = c .before .before .before .before .before .before .before .before .before .before in
+    let same = get-same _ _ _ _ _ _ _ (start .args .buffer .now) (start .pre .2) (near .1) in
     let e = same ∙ gets-at-hand _ _ _ _ _ _ (near .0) (sym (c .before .before .before .before .before .before .at-hand .ensures) ∙ c .before .before .before .before .before .if1 .taken) _ (c .before .before .before .get-run .ensures) in
     (c .got .ensures ∙ ap (λ r. r .got) (sym e), ap (λ r. r .buffer) (sym e))
 

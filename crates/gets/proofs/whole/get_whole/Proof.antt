@@ -66,7 +66,10 @@ add-t12 c =
     let long = c .before .before .before .before .before .before .before .before .before .before .before .before .before .before .before .before .good .1 .1 .1 .1 .0 .0 in omega arith
 
 get-behind-requires : tie.Need-get-behind-requires Inv-loop μ-loop
-get-behind-requires c κs = let room = tested (c .before .before .before .before .before .before .before .before .before .before .before) in let kept = c .before .before .before .before .buffer .given in (c .before .before .before .before .before .before .before .before .before .before .before .before .before .before .before .before .before .pre .0, c .before .before .before .before .before .before .before .before .before .before .before .before .before .before .before .before .before .pre .1, entered (c .before .before .before .before .before .before .before .before), omega arith)
+get-behind-requires c κs =
+    let room = tested (c .before .before .before .before .before .before .before .before .before .before .before) in
+    let kept = c .before .before .before .before .buffer .given in
+    let pre = c .before .before .before .before .before .before .before .before .before .before .before .before .before .before .before .before .before .pre in (pre .0, pre .1, entered (c .before .before .before .before .before .before .before .before), omega arith)
 
 loop-less : tie.Need-loop-less Inv-loop μ-loop
 loop-less c =

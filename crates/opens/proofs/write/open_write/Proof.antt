@@ -27,7 +27,9 @@ enum-known-a c = search needs
 open-found-requires : tie.Need-open-found-requires
 open-found-requires c κs =
     let pre = c .before .before .before .before .before .before .before .before .pre in
-    (pre .0, pre .1, subst InSlot (c .before .before .a .given .1) (c .before .before .before .before .find-named .ensures .1), subst (OnGood _) (c .before .before .a .given .1) (on-good (c .before .before .before .before)))
+    let found = c .before .before .before .before in
+    let at = c .before .before .a .given .1 in
+    (pre .0, pre .1, subst InSlot at (found .find-named .ensures .1), subst (OnGood _) at (on-good found))
 
 enum-known-a-2 : tie.Need-enum-known-a-2
 enum-known-a-2 c = search needs
