@@ -3,10 +3,8 @@
 // place is printed what the calls answered, or what the sector call reads back. Orders in place of code keep what is to be proved small:
 // an example more is a line more of that file. A `=` ends the lines for a raw image and those for a disk of double density.
 //   call C D NAME   a CIO command by its number, with a direction and a name, all channels closed before: the status
-//   get N           N bytes from the channel that the last call opened: the status and the count
-//   peek N          the same; the channel stays as it was
-//   take            the same of three bytes, which are printed too
-//   write N         N bytes put to the channel
+//   get N           N bytes, 256 at most, from the channel that the last call opened: the status, the count, and the buffer's first three bytes, which were `---`
+//   write N         N bytes, 88375 at most, put to the channel: the status and the count
 //   make N NAME     a file of N bytes, by open, put and close: the first status that is no success
 //   fill            files of one byte until that is refused, at most 64: how many
 //   name NAME       a name's status

@@ -1,16 +1,16 @@
-// What an order says. It stands in braces: a word, which is known by its first letter, and behind blanks up to two numbers and a text.
+// What an order says. Behind its brace stands a word, which is known by its first letter, and behind blanks up to two numbers and a text.
 ghost use Prim.Native.Nat.{_≤_};
 ghost use lib.ListN.{length};
 
-// Where the part behind the next blank begins, or the end.
-pub fn behind(order: &[u8], from: usize) -> usize
-    requires { ⌜ from ≤ length (now order) ⌝ }
-    ensures { λ r. ⌜ r ≤ length (now (order .entry)) ⌝ }
+// Where the part behind the next such byte begins, or the end.
+pub fn behind(text: &[u8], from: usize, b: u8) -> usize
+    requires { ⌜ from ≤ length (now text) ⌝ }
+    ensures { λ r. ⌜ (from ≤ r) × (r ≤ length (now (text .entry))) ⌝ }
 {
     let mut at = from;
-    while at < order.len() {
+    while at < text.len() {
         at += 1;
-        if order[at - 1] == b' ' {
+        if text[at - 1] == b {
             return at;
         }
     }
@@ -25,16 +25,24 @@ fn with_digit(n: usize, b: u8) -> usize {
     }
 }
 
-// The digits of a part, as a number.
-pub fn decimal(part: &[u8]) -> usize {
+// The digits from a place up to a blank, as a number.
+pub fn decimal(text: &[u8], from: usize) -> usize {
     let mut n = 0;
-    let mut i = 0;
-    while i < part.len() {
-        if part[i] == b' ' {
+    let mut i = from;
+    while i < text.len() {
+        if text[i] == b' ' {
             return n;
         }
-        n = with_digit(n, part[i]);
+        n = with_digit(n, text[i]);
         i += 1;
     }
     n
+}
+
+// The first letter of an order's word.
+pub fn letter(order: &[u8]) -> u8 {
+    if order.len() < 2 {
+        return 0;
+    }
+    order[1]
 }

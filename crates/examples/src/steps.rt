@@ -3,6 +3,9 @@ use capi::dos_cio;
 use layout::status::SUCCESS;
 ghost use Prim.Native.Nat.{_≤_};
 
+// The most bytes that are put at once: all that a raw image has room for.
+const MOST: usize = 88375;
+
 // A number.
 pub fn number(n: u64) {
     io::print_decimal(1, n);
@@ -47,33 +50,24 @@ pub fn call(
     dos_cio(image, words, 0, command, direction, text, &mut none)
 }
 
-// A get or a put of the first n of these bytes, which begin XYZ.
-fn transfer_first(
-    image: &mut [u8],
-    words: &mut [u16; 40],
-    command: u8,
-    bytes: &mut [u8],
-    n: usize,
-) -> u64 {
-    if bytes.len() < n {
+// A get of n bytes on channel 0: status and count, and the first three bytes of the buffer.
+pub fn get(image: &mut [u8], words: &mut [u16; 40], n: usize)
+    requires { ⌜ n ≤ 256 ⌝ }
+{
+    let mut bytes = [b'-'; 256];
+    answer(dos_cio(image, words, 0, 7, 0, b"", &mut bytes[0..n]));
+    io::write_all(1, &[b' ', bytes[0], bytes[1], bytes[2]]);
+}
+
+// A put of n bytes on channel 0, which begin XYZ.
+pub fn put(image: &mut [u8], words: &mut [u16; 40], n: usize) -> u64 {
+    let mut bytes = [b'X'; MOST];
+    bytes[1] = b'Y';
+    bytes[2] = b'Z';
+    if MOST < n {
         return 0;
     }
-    begin(bytes);
-    dos_cio(image, words, 0, command, 0, b"", &mut bytes[0..n])
-}
-
-// The second and the third of these bytes, where there are so many. Not within the function above: as a call it leaves their number known.
-fn begin(bytes: &mut [u8]) {
-    if 2 < bytes.len() {
-        bytes[1] = b'Y';
-        bytes[2] = b'Z';
-    }
-}
-
-// A get or a put of n bytes on channel 0.
-pub fn transfer(image: &mut [u8], words: &mut [u16; 40], command: u8, n: usize) -> u64 {
-    let mut bytes = [b'X'; 178871];
-    transfer_first(image, words, command, &mut bytes, n)
+    dos_cio(image, words, 0, 11, 0, b"", &mut bytes[0..n])
 }
 
 // A result whose status is success.
@@ -96,7 +90,7 @@ fn first_refusal(a: u64, b: u64, c: u64) -> u64 {
 pub fn make(image: &mut [u8], text: &[u8], n: usize) -> u64 {
     let mut words = [0u16; 40];
     let opened = call(image, &mut words, 3, 8, text);
-    let written = transfer(image, &mut words, 11, n);
+    let written = put(image, &mut words, n);
     let closed = call(image, &mut words, 12, 0, text);
     first_refusal(opened, written, closed)
 }

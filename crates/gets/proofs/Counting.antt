@@ -2,11 +2,9 @@
 use mathlib.Core.Bool.{true, _&&_}
 use mathlib.Core.List.{List}
 use mathlib.Core.Logic.{_⊎_, inl, inr}
-use mathlib.Core.Path.{_≡_, sym, _∙_}
+use mathlib.Core.Path.{_≡_, sym}
 use Prim.Native.Nat.{ℕ, _+_, _-_, _*_, _≤_, _<_}
 use native.Mathlib.Decide.{ℕ-discrete}
-use native.Mathlib.Nat.{add-zero, sub-zero, suc-mul}
-use native.Mathlib.Numerals.{add-one}
 use native.Mathlib.Omega.{arith}
 use lib.Dec.{leb, eqb}
 use lib.ListN.{length}
@@ -19,7 +17,7 @@ use Rattle.layout.specs.File.{owner, next, inUse, fits}
 use Rattle.layout.proofs.Logic.{and-left, and-right, and-no}
 use Rattle.layout.proofs.Data.{data-cases, data-facts}
 use Rattle.gets.specs.declared.whole.Filled.{Filled}
-use Rattle.gets.specs.Entered.{full, leadsOn, Consecutive, Fills, FillsBehind}
+use Rattle.gets.specs.Entered.{full, leadsOn, Consecutive, Fills}
 use Rattle.gets.proofs.Getting.{gets-start, gets-full}
 
 -- the second run of data sectors begins behind the directory
@@ -54,42 +52,29 @@ module _ (g : Geometry) (d : Disk) (s k : ℕ) where
   unfolding leadsOn
   leads-next e = eqb-true (next g (d k)) (k + 1) (and-right (full g d s k) (eqb (next g (d k)) (k + 1)) e)
 
--- a get from the end of a sector on, at most n sectors on: at its byte i with buffer b, j of them are entered
-pub record Counting (g : Geometry) (d : Disk) (s : ℕ) (w : Filled) (n : ℕ) (b₀ : List ℕ) (j i : ℕ) (b : List ℕ) : Type 0 where
-  pub most : j ≤ n
+-- a get from the end of a sector on: at its byte i with buffer b, it has entered those up to sector k, by counting
+pub record Counting (g : Geometry) (d : Disk) (s : ℕ) (w : Filled) (b₀ : List ℕ) (k i : ℕ) (b : List ℕ) : Type 0 where
+  pub least : w .sector ≤ k
   pub within : i ≤ length b₀
-  pub filled : i ≡ w .count + j * g .room
-  pub leads : next g (d (w .sector + j)) ≡ w .sector + 1 + j
-  pub fills : Fills g d s w b₀ (record { sector = w .sector + j; left = w .left - j; count = i }) b
+  pub leads : next g (d k) ≡ k + 1
+  pub fills : Fills g d s w b₀ (record { sector = k; left = w .left - (k - w .sector); count = i }) b
 
-module _ {g : Geometry} {d : Disk} {s : ℕ} {w : Filled} {n : ℕ} {b₀ : List ℕ} where
-  pub counting-holds : 4 ≤ w .sector → w .count ≤ length b₀ → Consecutive g d (w .sector) → Counting g d s w n b₀ 0 (w .count) b₀
-  counting-holds a h t = record {
-    most = omega arith;
-    within = h;
-    filled = omega arith;
-    leads = rw (add-zero (w .sector), add-zero (w .sector + 1)) (t .leads);
-    fills = rw (add-zero (w .sector), sub-zero (w .left)) (a, gets-start (w .count) _ b₀ h (t .entered));
-  }
+module _ {g : Geometry} {d : Disk} {s : ℕ} {w : Filled} {b₀ : List ℕ} where
+  pub counting-holds : 4 ≤ w .sector → w .count ≤ length b₀ → Consecutive g d (w .sector) → Counting g d s w b₀ (w .sector) (w .count) b₀
+  counting-holds a h t =
+      let none : w .left - (w .sector - w .sector) ≡ w .left = omega arith in
+      record { least = omega arith; within = h; leads = t .leads; fills = rw none (a, gets-start (w .count) _ b₀ h (t .entered)) }
 
-  module _ {j i : ℕ} {b : List ℕ} (q : Counting g d s w n b₀ j i b) where
-    pub counting-again : n ≤ w .left → 0 < g .room → j < n → i + g .room ≤ length b₀ → leadsOn g d s (w .sector + 1 + j) ≡ true → (c : List ℕ) → c ≡ sets b i (valuesFrom (d (w .sector + 1 + j)) (g .room) 0)
-        → Counting g d s w n b₀ (j + 1) (i + g .room) c
-    counting-again l r h f u c z =
-        let k = w .sector + 1 + j in
-        let e : w .sector + (j + 1) ≡ k = omega arith in
-        let m : (j + 1) * g .room ≡ j * g .room + g .room = rw (add-one j) (suc-mul j (g .room)) in
-        let o : w .left - (j + 1) ≡ w .left - j - 1 = omega arith in
-        let x = q .filled in
-        let y = leads-next g d s k u in
+  module _ {k i : ℕ} {b : List ℕ} (q : Counting g d s w b₀ k i b) where
+    pub counting-again : 0 < g .room → k - w .sector < w .left → i + g .room ≤ length b₀ → leadsOn g d s (k + 1) ≡ true → (c : List ℕ) → c ≡ sets b i (valuesFrom (d (k + 1)) (g .room) 0)
+        → Counting g d s w b₀ (k + 1) (i + g .room) c
+    counting-again r h f u c z =
+        let l = q .least in
+        let o : w .left - (k + 1 - w .sector) ≡ w .left - (k - w .sector) - 1 = omega arith in
         let v = q .fills in
         record {
-          most = omega arith;
+          least = omega arith;
           within = f;
-          filled = omega arith;
-          leads = rw e (y ∙ omega arith);
-          fills = rw (e, o) (let a = v .0 in omega arith, gets-full r (v .1) (v .0) (omega arith) f k (sym (q .leads)) (leads-full g d s k u) c z);
+          leads = leads-next g d s (k + 1) u;
+          fills = rw o (let a = v .0 in omega arith, gets-full r (v .1) (v .0) (omega arith) f (k + 1) (sym (q .leads)) (leads-full g d s (k + 1) u) c z);
         }
-
-    pub counting-done : FillsBehind g d s w n b₀ j b
-    counting-done = (q .most, rw (← q .filled) (q .fills))

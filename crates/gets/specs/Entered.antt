@@ -2,7 +2,7 @@
 use mathlib.Core.Bool.{Bool, true, not, _&&_}
 use mathlib.Core.List.{List}
 use mathlib.Core.Path.{_≡_}
-use Prim.Native.Nat.{ℕ, _+_, _-_, _*_, _≤_, _<_}
+use Prim.Native.Nat.{ℕ, _+_, _-_, _≤_, _<_}
 use lib.Dec.{eqb, leb}
 use lib.ListN.{length}
 use Rattle.layout.specs.Image.{Disk, Geometry}
@@ -56,10 +56,6 @@ module _ (g : Geometry) where
   -- from there, with buffer b, full sectors are entered up to the end of another, with buffer b′
   abbrev pub Fills : Disk → ℕ → Filled → List ℕ → Filled → List ℕ → Type 0
   Fills d s w b r b′ = (4 ≤ r .sector) × Gets d s (length b) (w .count) (endOf w) b (r .count) (endOf r) b′
-
-  -- so are they where r sectors behind the first follow it on the disk, at most n
-  abbrev pub FillsBehind : Disk → ℕ → Filled → ℕ → List ℕ → ℕ → List ℕ → Type 0
-  FillsBehind d s w n b r b′ = (r ≤ n) × Fills d s w b (record { sector = w .sector + r; left = w .left - r; count = w .count + r * g .room }) b′
 
   -- a full sector leads to the one after it on the disk
   unfoldable pub leadsOn : Disk → ℕ → ℕ → Bool

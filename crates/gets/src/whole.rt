@@ -10,11 +10,11 @@ use layout::density::Medium;
 use runs::run::get_data;
 ghost use mathlib.Core.Bool.{true};
 ghost use mathlib.Core.Path.{_≡_};
-ghost use Prim.Native.Nat.{ℕ, _≤_, _<_};
+ghost use Prim.Native.Nat.{ℕ, _-_, _≤_, _<_};
 ghost use lib.ListN.{length};
 ghost use Rattle.layout.specs.Image.{Whole, geometryOf, view};
 ghost use Rattle.layout.specs.Volume.{dataSector};
-ghost use Rattle.gets.specs.Entered.{full, leadsOn, Entered, Consecutive, DataBehind, Fills, FillsBehind};
+ghost use Rattle.gets.specs.Entered.{full, leadsOn, Entered, Consecutive, DataBehind, Fills};
 
 // The end of a full sector, the sectors yet to enter from there, and the bytes of the buffer that are filled.
 pub struct Filled {
@@ -69,34 +69,53 @@ fn leads_on(m: Medium, image: &[u8], slot: u16, sector: u16, at: usize) -> bool
     (link == slot * 1024 + (sector + 1)) & (used == room)
 }
 
-// Full sectors behind one that leads to the sector after it on the disk, at most `n` and as long as each does so too; how many. Each is found by counting and its link only compared, so that no load
+// The end of a sector that was reached by counting on from another, with what is left to enter and what is filled there.
+fn counted_to(w: Filled, sector: u16, count: usize) -> Filled
+    requires { ⌜ (w .sector ≤ sector) × (sector - w .sector ≤ w .left) ⌝ }
+    ensures { λ r. ⌜ r ≡ record { sector = sector; left = w .left - (sector - w .sector); count = count } ⌝ }
+{
+    Filled {
+        sector,
+        left: w.left - (sector - w.sector),
+        count,
+    }
+}
+
+// Full sectors behind one that leads to the sector after it on the disk, at most `n` and as long as each does so too. Each is found by counting and its link only compared, so that no load
 // waits for the one before, and where it starts is handed on.
-fn get_counted(m: Medium, image: &[u8], slot: u16, w: Filled, n: u16, buffer: &mut [u8]) -> u16
+fn get_counted(m: Medium, image: &[u8], slot: u16, w: Filled, n: u16, buffer: &mut [u8]) -> Filled
     requires { ⌜ Whole m (now image) × (slot < 64) × (4 ≤ w .sector) × (n ≤ w .left) × DataBehind (w .sector) n × (w .count ≤ length (now buffer)) × Consecutive (geometryOf m) (view (geometryOf m) (now image)) (w .sector) ⌝ }
-    ensures { λ r. ⌜ FillsBehind (geometryOf m) (view (geometryOf m) (now (image .entry))) slot w n (now (buffer .entry)) r (now (buffer .exit)) ⌝ }
+    ensures { λ r. ⌜ Fills (geometryOf m) (view (geometryOf m) (now (image .entry))) slot w (now (buffer .entry)) r (now (buffer .exit)) ⌝ }
 {
     let room = m.density.room;
     let size = m.density.size;
-    let end = w.sector + 1 + n;
+    let end = w.sector + n;
     let mut at = start(m, w.sector + 1);
-    let mut k = w.sector + 1;
+    let mut k = w.sector;
     let mut i = w.count;
     while (k < end) & (room <= buffer.len() - i) {
-        if !leads_on(m, image, slot, k, at) {
-            return k - w.sector - 1;
+        if !leads_on(m, image, slot, k + 1, at) {
+            return counted_to(w, k, i);
         }
-        get_data(m, image, k, at, buffer, i);
+        get_data(m, image, k + 1, at, buffer, i);
         k += 1;
         at += size;
         i += room;
     }
-    k - w.sector - 1
+    counted_to(w, k, i)
 }
 
 // The same, with the numbers of each density as constants: the loop is short enough to be made once for each of them.
-fn get_consecutive(m: Medium, image: &[u8], slot: u16, w: Filled, n: u16, buffer: &mut [u8]) -> u16
+fn get_consecutive(
+    m: Medium,
+    image: &[u8],
+    slot: u16,
+    w: Filled,
+    n: u16,
+    buffer: &mut [u8],
+) -> Filled
     requires { ⌜ Whole m (now image) × (slot < 64) × (4 ≤ w .sector) × (n ≤ w .left) × DataBehind (w .sector) n × (w .count ≤ length (now buffer)) × Consecutive (geometryOf m) (view (geometryOf m) (now image)) (w .sector) ⌝ }
-    ensures { λ r. ⌜ FillsBehind (geometryOf m) (view (geometryOf m) (now (image .entry))) slot w n (now (buffer .entry)) r (now (buffer .exit)) ⌝ }
+    ensures { λ r. ⌜ Fills (geometryOf m) (view (geometryOf m) (now (image .entry))) slot w (now (buffer .entry)) r (now (buffer .exit)) ⌝ }
 {
     let header = m.header;
     if m.density.size == Density::SINGLE_SIZE {
@@ -115,17 +134,10 @@ fn get_behind(m: Medium, image: &[u8], slot: u16, w: Filled, buffer: &mut [u8]) 
     requires { ⌜ Whole m (now image) × (slot < 64) × (full (geometryOf m) (view (geometryOf m) (now image)) slot (w .sector) ≡ true) × (w .count ≤ length (now buffer)) ⌝ }
     ensures { λ r. ⌜ Fills (geometryOf m) (view (geometryOf m) (now (image .entry))) slot w (now (buffer .entry)) r (now (buffer .exit)) ⌝ }
 {
-    let room = m.density.room;
     if next(m, image, w.sector) != w.sector + 1 {
         return w;
     }
-    let most = ahead(w.sector, w.left);
-    let n = get_consecutive(m, image, slot, w, most, buffer);
-    Filled {
-        sector: w.sector + n,
-        left: w.left - n,
-        count: w.count + n as usize * room,
-    }
+    get_consecutive(m, image, slot, w, ahead(w.sector, w.left), buffer)
 }
 
 // Full sectors from the end of one on, wherever on the disk they are.

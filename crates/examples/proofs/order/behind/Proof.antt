@@ -6,10 +6,10 @@ use Rattle.examples.proofs.order.behind.Statement.{statement}
 use Rattle.examples.proofs.order.behind.Tie as tie
 
 abbrev Inv-loop : tie.InvT-loop
-Inv-loop order from at₀ at = at ≤ length order
+Inv-loop text from b at₀ at = (from ≤ at) × (at ≤ length text)
 
 abbrev μ-loop : tie.MeasureT-loop
-μ-loop order from at₀ at = length order - at
+μ-loop text from b at₀ at = length text - at
 
 loop-holds : tie.Need-loop-holds Inv-loop μ-loop
 loop-holds c = search needs

@@ -6,10 +6,10 @@ use Rattle.examples.proofs.order.decimal.Statement.{statement}
 use Rattle.examples.proofs.order.decimal.Tie as tie
 
 abbrev Inv-loop : tie.InvT-loop
-Inv-loop part n₀ i₀ n i = i ≤ length part
+Inv-loop text from n₀ i₀ n i = from ≤ i
 
 abbrev μ-loop : tie.MeasureT-loop
-μ-loop part n₀ i₀ n i = length part - i
+μ-loop text from n₀ i₀ n i = length text - i
 
 loop-holds : tie.Need-loop-holds Inv-loop μ-loop
 loop-holds c = search needs

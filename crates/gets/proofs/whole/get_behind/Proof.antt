@@ -30,31 +30,12 @@ get-consecutive-requires c κs =
     let most = c .before .ahead .ensures in
     (p .0, p .1, data-facts _ (fits-data _ _ _ _ e) .pos, most .0, most .1, p .3, record { entered = fits-entered _ _ _ _ e; leads = sym (c .before .before .before .before .next .ensures) ∙ c .before .before .if1 .left })
 
-add-t9 : tie.Need-add-t9
-add-t9 c = let top = c .before .before .before .before .before .ahead .ensures .1 .top in let n = c .before .before .before .get-consecutive .ensures .0 in omega arith
-
-sub-t10 : tie.Need-sub-t10
-sub-t10 c = let most = c .before .before .before .before .before .before .ahead .ensures .0 in let n = c .before .before .before .before .get-consecutive .ensures .0 in omega arith
-
-cast-t14 : tie.Need-cast-t14
-cast-t14 c = search needs
-
-mul-t15 : tie.Need-mul-t15
-mul-t15 c =
-    let within = c .before .before .before .before .get-consecutive .ensures .1 .1 .most in
-    let long = c .before .before .before .before .before .before .before .before .before .before .before .before .good .1 .1 .1 .1 .0 .0 in omega arith
-
-add-t16 : tie.Need-add-t16
-add-t16 c =
-    let within = c .before .before .before .before .before .get-consecutive .ensures .1 .1 .most in
-    let long = c .before .before .before .before .before .before .before .before .before .before .before .before .before .good .1 .1 .1 .1 .0 .0 in omega arith
-
 same-length : tie.Need-same-length
 same-length c = search needs
 
 returns-2 : tie.Need-returns-2
-returns-2 c = c .before .before .before .before .before .get-consecutive .ensures .1
+returns-2 c = c .before .before .get-consecutive .ensures
 
 pub get-behind-spec : {M : Type 1} → statement M
 get-behind-spec =
-    tie.close (tie.spec next-requires add-if1 returns ahead-requires get-consecutive-requires add-t9 sub-t10 cast-t14 mul-t15 add-t16 same-length returns-2)
+    tie.close (tie.spec next-requires add-if1 returns ahead-requires get-consecutive-requires same-length returns-2)
