@@ -93,12 +93,13 @@ pub fn act(image: &mut [u8], words: &mut [u16; 40], order: &[u8]) {
     let at = behind(order, 0, b' ');
     let next = behind(order, at, b' ');
     let first = decimal(order, at);
-    match letter(order) {
+    let word = letter(order);
+    match word {
         b'c' => command(image, words, first, &order[next..]),
         b'g' => get(image, words, first % 257),
         b'w' => answer(put(image, words, first)),
         b'm' => status(make(image, &order[next..], first)),
         b'n' => name(&order[at..]),
-        _ => look(image, letter(order), first, decimal(order, next)),
+        _ => look(image, word, first, decimal(order, next)),
     }
 }

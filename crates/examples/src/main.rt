@@ -3,7 +3,7 @@
 // place is printed what the calls answered, or what the sector call reads back. Orders in place of code keep what is to be proved small:
 // an example more is a line more of that file. A `=` ends the lines for a raw image and those for a disk of double density.
 //   call C D NAME   a CIO command by its number, with a direction and a name, all channels closed before: the status
-//   get N           N bytes, 256 at most, from the channel that the last call opened: the status, the count, and the buffer's first three bytes, which were `---`
+//   get N           N bytes, 256 at most, from the channel that the last call opened: the status, the count, and the buffer's first byte, which was `-`
 //   write N         N bytes, 88375 at most, put to the channel: the status and the count
 //   make N NAME     a file of N bytes, by open, put and close: the first status that is no success
 //   fill            files of one byte until that is refused, at most 64: how many
@@ -11,8 +11,8 @@
 //   undelete N      recovery of a slot: the status and the count
 //   header          the header written: the status
 //   read S N        sector S read into N bytes: the status and the count
-//   at, value, slot, link S B   byte B of sector S, with the next one a word, the slot's number or the next sector that they say
-//   image B         byte B of the image
+//   at, value, slot, link S B   byte B of sector S in base 16, with the next one a word, the slot's number or the next sector that they say
+//   image B         byte B of the image in base 16
 mod acts;
 mod order;
 mod script;

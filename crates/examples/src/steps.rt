@@ -1,7 +1,9 @@
 // What the orders are made of: calls on channel 0, files made, and what is printed.
 use capi::dos_cio;
 use layout::status::SUCCESS;
+ghost use mathlib.Core.Path.{_≡_};
 ghost use Prim.Native.Nat.{_≤_};
+ghost use lib.ListN.{length};
 
 // The most bytes that are put at once: all that a raw image has room for.
 const MOST: usize = 88375;
@@ -23,19 +25,9 @@ pub fn answer(result: u64) {
     number(result / 256);
 }
 
-// One digit in base 16.
-fn digit(n: u8) -> u8
-    requires { ⌜ n ≤ 15 ⌝ }
-{
-    if n < 10 {
-        return b'0' + n;
-    }
-    b'A' - 10 + n
-}
-
-// A blank and a byte's two digits.
+// A byte's two digits in base 16.
 pub fn hex(b: u8) {
-    io::write_all(1, &[b' ', digit(b / 16), digit(b % 16)]);
+    io::print_hex(1, b as u64, 2);
 }
 
 // A CIO call on channel 0 that moves no bytes.
@@ -50,23 +42,28 @@ pub fn call(
     dos_cio(image, words, 0, command, direction, text, &mut none)
 }
 
-// A get of n bytes on channel 0: status and count, and the first three bytes of the buffer.
+// A get of n bytes on channel 0: status and count, and the buffer's first byte.
 pub fn get(image: &mut [u8], words: &mut [u16; 40], n: usize)
     requires { ⌜ n ≤ 256 ⌝ }
 {
     let mut bytes = [b'-'; 256];
     answer(dos_cio(image, words, 0, 7, 0, b"", &mut bytes[0..n]));
-    io::write_all(1, &[b' ', bytes[0], bytes[1], bytes[2]]);
+    io::write_all(1, &[b' ', bytes[0]]);
 }
 
-// A put of n bytes on channel 0, which begin XYZ.
+// So many letters. From a function of its own an array is known by its length alone; what is proved of one that is written out takes time for each byte.
+fn letters() -> [u8; MOST]
+    ensures { λ r. ⌜ 88375 ≡ length r ⌝ }
+{
+    [b'X'; MOST]
+}
+
+// A put of n bytes on channel 0.
 pub fn put(image: &mut [u8], words: &mut [u16; 40], n: usize) -> u64 {
-    let mut bytes = [b'X'; MOST];
-    bytes[1] = b'Y';
-    bytes[2] = b'Z';
     if MOST < n {
         return 0;
     }
+    let mut bytes = letters();
     dos_cio(image, words, 0, 11, 0, b"", &mut bytes[0..n])
 }
 
