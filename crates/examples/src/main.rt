@@ -3,8 +3,8 @@
 // place is printed what the calls answered, or what the sector call reads back. Orders in place of code keep what is to be proved small:
 // an example more is a line more of that file. A `=` ends the lines for a raw image and those for a disk of double density.
 //   call C D NAME   a CIO command by its number, with a direction and a name, all channels closed before: the status
-//   get N           N bytes, 256 at most, from the channel that the last call opened: the status, the count, and the buffer's first byte, which was `-`
-//   write N         N bytes, 88375 at most, put to the channel: the status and the count
+//   get N           N bytes, 256 at most, from the channel that the last call opened: the status, the count, and the buffer's first three bytes, which were `---`
+//   write N         N bytes, 178871 at most, which begin XYZ, put to the channel: the status and the count
 //   make N NAME     a file of N bytes, by open, put and close: the first status that is no success
 //   fill            files of one byte until that is refused, at most 64: how many
 //   name NAME       a name's status

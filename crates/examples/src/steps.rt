@@ -5,8 +5,8 @@ ghost use mathlib.Core.Path.{_≡_};
 ghost use Prim.Native.Nat.{_≤_};
 ghost use lib.ListN.{length};
 
-// The most bytes that are put at once: all that a raw image has room for.
-const MOST: usize = 88375;
+// The most bytes that are put at once: all that a disk of double density has room for.
+const MOST: usize = 178871;
 
 // A number.
 pub fn number(n: u64) {
@@ -42,28 +42,30 @@ pub fn call(
     dos_cio(image, words, 0, command, direction, text, &mut none)
 }
 
-// A get of n bytes on channel 0: status and count, and the buffer's first byte.
+// A get of n bytes on channel 0: status and count, and the buffer's first three bytes.
 pub fn get(image: &mut [u8], words: &mut [u16; 40], n: usize)
     requires { ⌜ n ≤ 256 ⌝ }
 {
     let mut bytes = [b'-'; 256];
     answer(dos_cio(image, words, 0, 7, 0, b"", &mut bytes[0..n]));
-    io::write_all(1, &[b' ', bytes[0]]);
+    io::write_all(1, &[b' ', bytes[0], bytes[1], bytes[2]]);
 }
 
 // So many letters. From a function of its own an array is known by its length alone; what is proved of one that is written out takes time for each byte.
 fn letters() -> [u8; MOST]
-    ensures { λ r. ⌜ 88375 ≡ length r ⌝ }
+    ensures { λ r. ⌜ 178871 ≡ length r ⌝ }
 {
     [b'X'; MOST]
 }
 
-// A put of n bytes on channel 0.
+// A put of n bytes on channel 0, which begin XYZ.
 pub fn put(image: &mut [u8], words: &mut [u16; 40], n: usize) -> u64 {
     if MOST < n {
         return 0;
     }
     let mut bytes = letters();
+    bytes[1] = b'Y';
+    bytes[2] = b'Z';
     dos_cio(image, words, 0, 11, 0, b"", &mut bytes[0..n])
 }
 

@@ -1,12 +1,12 @@
 -- `decimal` is safe and ends: each turn leaves one byte less.
-use Prim.Native.Nat.{_≤_, _-_}
+use Prim.Native.Nat.{_-_}
 use lib.ListN.{length}
 use borrow.Author.Needs.{needs}
 use Rattle.examples.proofs.order.decimal.Statement.{statement}
 use Rattle.examples.proofs.order.decimal.Tie as tie
 
 abbrev Inv-loop : tie.InvT-loop
-Inv-loop text from n₀ i₀ n i = from ≤ i
+Inv-loop text from n₀ i₀ n i = Unit {0}
 
 abbrev μ-loop : tie.MeasureT-loop
 μ-loop text from n₀ i₀ n i = length text - i
