@@ -1,7 +1,6 @@
 -- A call on words is the call of the rules on the table that they say, and so on along a list: the exported functions run alike to the rules.
-use mathlib.Core.Bool.{Bool, true, _&&_}
+use mathlib.Core.Bool.{true}
 use mathlib.Core.List.{List, [], _∷_}
-use mathlib.Core.Logic.{_⊎_, inl, inr}
 use mathlib.Core.Path.{_≡_, refl, ap, _∙_}
 use Prim.Native.Nat.{ℕ, _+_, _*_, _/_, _%_, _<_}
 use native.Mathlib.Omega.{arith}
@@ -10,32 +9,21 @@ use lib.ListN.{length}
 use borrow.Author.Tests.{ltb-true}
 use Rattle.layout.specs.declared.Table.{Table}
 use Rattle.layout.specs.Basics.{allBelow, member}
-use Rattle.layout.specs.declared.Served.{Served}
-use Rattle.layout.specs.declared.Served.the-variants.{As, Not}
 use Rattle.layout.specs.Image.{Disk, Geometry, geometryOf, view}
-use Rattle.layout.specs.Header.{servedAs}
-use Rattle.layout.specs.Status.{badImage, badHeader}
 use Rattle.layout.specs.Channels.{freshTable}
 use Rattle.layout.proofs.Channels.{with-length}
-use Rattle.layout.proofs.Check.{by-check, by-served}
-use Rattle.layout.proofs.Logic.{and-left, and-right}
-use Rattle.layout.proofs.Members.{no-member, member-cons}
+use Rattle.layout.proofs.Check.{by-served}
+use Rattle.layout.proofs.Members.{passes, passes-each}
 use Rattle.rules.specs.declared.Block.{Block}
-use Rattle.rules.specs.declared.Transfer.{Transfer}
-use Rattle.rules.specs.declared.Transfer.the-variants.{Get, Put}
-use Rattle.rules.specs.declared.FileCommand.{FileCommand}
-use Rattle.rules.specs.declared.FileCommand.the-variants.{Open, Status, Rename, Delete, Lock, Unlock, Format}
-use Rattle.rules.specs.declared.Command.the-variants.{Moves, Files}
 use Rattle.rules.specs.Cio.{Outcome, ImageOutcome, cioCall}
-use Rattle.rules.specs.Demand1.{openAnswers, commandAnswers, answers, recoveryAnswers}
 use Rattle.rules.specs.Lists.{Call, cioOf, recoveryOf, run, ImageTable, systemOf, outcomeOn, afterOn, images}
 use Rattle.rules.proofs.Acts.{Kind, Ends, refuses, reads, reads-none, writes, writes-none, frees, closes, drops, opens, rewrites, makes, tells, renames, deletes, locks, unlocks, formats, restores}
-use Rattle.rules.proofs.Ends.{by-command, ends-as}
+use Rattle.rules.proofs.Ends.{ends-as}
 use Rattle.words.specs.Result.{resultOf}
 use Rattle.words.specs.Words.{inForce, stateIn, channelAt, kindInForce, isTable, channelsFrom, tableOf}
 use Rattle.words.proofs.Tables.{table-length, table-eight, words-say, words-table}
 use Rattle.capi.proofs.Laws.{on-table}
-use Rattle.theory.proofs.Demand1.{demand1}
+use Rattle.theory.proofs.Never161.{numbers, every-status}
 use Rattle.theory.proofs.Alike.{Alike, demand2-alike, demand3-alike}
 use Rattle.theory.proofs.OnImages.{image-demand2, image-demand3}
 use Rattle.exported.specs.Words.{ImageWords, said, callWords, seen, words, WordsRun, FreshWords, WordsDemand2, WordsDemand3}
@@ -65,53 +53,15 @@ call-many : (l : List ℕ) (t : Table) (c : Block) (text b : List ℕ) → lengt
 unfolding cioCall
 call-many l t c text b = by-served (λ (o : ImageOutcome). length (o .answer .table .channels) ≡ length (t .channels)) _ _ _ (λ _ _. refl) (λ m _. many t (ends-as (geometryOf m) (view (geometryOf m) l) t c text b _ refl))
 
--- every status is a byte, so that a result can be taken apart again: it is one of a list of bytes
-bytes : List ℕ → Bool
-bytes [] = true
-bytes (x ∷ l) = ltb x 256 && bytes l
-
-member-byte : (l : List ℕ) → bytes l ≡ true → (n : ℕ) → member n l ≡ true → n < 256
-unfolding bytes
-member-byte [] e n m = no-member n m
-member-byte (x ∷ l) e n m = go (member-cons n x l m) (member-byte l (and-right (ltb x 256) (bytes l) e) n)
-  where
-    go : (n ≡ x) ⊎ (member n l ≡ true) → (member n l ≡ true → n < 256) → n < 256
-    go (inl q) f = rw q (ltb-true x 256 (and-left (ltb x 256) (bytes l) e))
-    go (inr q) f = f q
-
-answers-bytes : (c : Block) → bytes (answers c) ≡ true
-unfolding answers commandAnswers openAnswers bytes
-answers-bytes c = by-check P _ _ _ (λ _. refl) λ _. by-command (λ k. P (commandAnswers (c .direction) k)) (c .command) moved refl filed refl refl
-  where
-    P : List ℕ → Type 0
-    P l = bytes l ≡ true
-
-    moved : (k : Transfer) → P (commandAnswers (c .direction) (Moves k))
-    moved Get = refl
-    moved Put = refl
-
-    filed : (k : FileCommand) → P (commandAnswers (c .direction) (Files k))
-    filed Open = by-check P _ _ _ (λ _. refl) λ _. by-check P _ _ _ (λ _. refl) λ _. refl
-    filed Status = refl
-    filed Rename = refl
-    filed Delete = refl
-    filed Lock = refl
-    filed Unlock = refl
-    filed Format = refl
+-- every status is a byte, so that a result can be taken apart again
+pub number-byte : (n : ℕ) → member n numbers ≡ true → n < 256
+unfolding passes numbers
+number-byte n m = ltb-true n 256 (passes-each (λ k. ltb k 256) numbers refl n m)
 
 status-byte : (c : Call) (x : ImageTable) → outcomeOn c x .answer .status < 256
-unfolding outcomeOn bytes
-status-byte c x = go c (servedAs (x .image)) refl
-  where
-    small : (n : ℕ) → (n ≡ badImage) ⊎ (n ≡ badHeader) → n < 256
-    small n (inl e) = omega arith
-    small n (inr e) = omega arith
-
-    go : (c : Call) (v : Served) → servedAs (x .image) ≡ v → outcomeOn c x .answer .status < 256
-    go (cioOf c text b) (As m) w = member-byte (answers c) (answers-bytes c) _ (demand1 .answers (x .image) m w .calls (x .table) c text b)
-    go (recoveryOf s) (As m) w = member-byte recoveryAnswers refl _ (demand1 .answers (x .image) m w .recoveries s)
-    go (cioOf c text b) (Not n) w = rw (demand1 .unserved (x .image) n w .calls (x .table) c text b) (small n (demand1 .reasons (x .image) .only n w))
-    go (recoveryOf s) (Not n) w = rw (demand1 .unserved (x .image) n w .recoveries s) (small n (demand1 .reasons (x .image) .only n w))
+unfolding outcomeOn
+status-byte (cioOf c text b) x = every-status _ number-byte .calls (x .image) (x .table) c text b
+status-byte (recoveryOf s) x = every-status _ number-byte .recoveries (x .image) s
 
 -- one call
 module _ (x : ImageWords) (h : isTable (x .words) ≡ true) where

@@ -31,7 +31,7 @@ use Rattle.layout.specs.Directory.{flag, writeFlag, locked, found, find, is43}
 use Rattle.layout.specs.File.{clean}
 use Rattle.layout.specs.Channels.{stateOf, withState, openAt, allOpen, held}
 use Rattle.layout.specs.Names.{wellFormed, nameAt, readAs, body, ending, comma, wholeEnd, named, readName, oldName, newName, readDevice}
-use Rattle.layout.specs.Status.{success, badChannel, badCommand, channelOpen, writeOnly, channelClosed, noChannel, notServed, badDevice, badUnit, badName, badTable, notFound, fileLocked, fileHeld, badChain}
+use Rattle.layout.specs.Status.{success, badChannel, badCommand, channelOpen, writeOnly, channelClosed, notServed, badDevice, badUnit, badName, badTable, notFound, fileLocked, fileHeld, badChain}
 use Rattle.layout.proofs.Check.{check-yes, check-no, by-check, by-name, by-found}
 use Rattle.layout.proofs.Channels.{with-id}
 use Rattle.layout.proofs.Logic.{and-left, and-right}
@@ -255,22 +255,22 @@ open-8 : (i : ℕ) → eqb i 4 ≡ false → eqb i 8 ≡ true → openAnswers i 
 unfolding openAnswers
 open-8 i e f = check-no (eqb i 4) _ _ e ∙ check-yes (eqb i 8) _ _ f
 
-open-else : (i : ℕ) → eqb i 4 ≡ false → eqb i 8 ≡ false → openAnswers i ≡ channelOpen ∷ noChannel ∷ notServed ∷ []
+open-else : (i : ℕ) → eqb i 4 ≡ false → eqb i 8 ≡ false → openAnswers i ≡ channelOpen ∷ notServed ∷ []
 unfolding openAnswers
 open-else i e f = check-no (eqb i 4) _ _ e ∙ check-no (eqb i 8) _ _ f
 
--- 129 and 161 are among them whatever the direction
-open-any : (i n : ℕ) → member n readAnswers ≡ true → member n writeAnswers ≡ true → member n (channelOpen ∷ noChannel ∷ notServed ∷ []) ≡ true → member n (openAnswers i) ≡ true
-unfolding openAnswers
-open-any i n p q r = by-check P _ _ _ (λ _. p) λ _. by-check P _ _ _ (λ _. q) λ _. r
+-- 129 is among them whatever the direction
+open-any : (i : ℕ) → member channelOpen (openAnswers i) ≡ true
+unfolding openAnswers member
+open-any i = by-check P _ _ _ (λ _. refl) λ _. by-check P _ _ _ (λ _. refl) λ _. refl
   where
     P : List ℕ → Type 0
-    P l = member n l ≡ true
+    P l = member channelOpen l ≡ true
 
 -- 129 is among the answers of every command that needs a closed channel
 closed-any : (i : ℕ) (k : FileCommand) → member channelOpen (commandAnswers i (Files k)) ≡ true
 unfolding commandAnswers member
-closed-any i Open = open-any i channelOpen refl refl refl
+closed-any i Open = open-any i
 closed-any i Status = refl
 closed-any i Rename = refl
 closed-any i Delete = refl
@@ -346,21 +346,26 @@ module _ (g : Geometry) (d : Disk) (t : Table) (c : Block) (text b : List ℕ) w
       free-row w s _ refl refl (no-chain _ s (a .at)) refl λ u h k.
       rewrites s (record { ready = r; direction = e; aim = a; unlocked = u; unheld = h; clear = k })
 
+  -- with its channel closed, not all eight are open: 161 does not come
+  not-all-open : Ready g d t c (Files Open) → allOpen t ≡ false
+  unfolding allOpen
+  not-all-open r = all-fails (openAt t) 8 (c .channel) (r .on .small) (r .shut)
+
   open-ends : Ready g d t c (Files Open) → A (Files Open) (openCall g d t (c .channel) (c .direction) text)
   unfolding openCall commandAnswers member
   open-ends r =
       let i = c .direction in
-      row (rows (r .on) refl) _ _ (open-any i noChannel refl refl refl) λ _.
+      by-check (A (Files Open)) _ _ _ (λ e. absurd (true≢false (sym e ∙ not-all-open r))) λ _.
       by-check (A (Files Open)) _ _ _ (λ e. open-read-ends (rows (r .on) (open-4 i e)) r (eqb-true i 4 e)) λ e.
       by-check (A (Files Open)) _ _ _ (λ f. open-write-ends (rows (r .on) (open-8 i e f)) r (eqb-true i 8 f)) λ f.
       refuse-plain (rows (r .on) (open-else i e f)) _ refl
 
   -- an open for input, on a closed channel, goes on with its name
   pub open-input : Ready g d t c (Files Open) → c .direction ≡ 4 → onClosed g d t c text Open ≡ openRead g d t (c .channel) text
-  unfolding onClosed fileCommand openCall allOpen
+  unfolding onClosed fileCommand openCall
   open-input r e =
       check-no {A = Effect} _ _ _ (r .shut)
-      ∙ check-no {A = Effect} _ _ _ (all-fails (openAt t) 8 (c .channel) (r .on .small) (r .shut))
+      ∙ check-no {A = Effect} _ _ _ (not-all-open r)
       ∙ check-yes {A = Effect} (eqb (c .direction) 4) _ _ (rw e)
 
   -- 13 status

@@ -21,7 +21,7 @@ use Rattle.layout.specs.Basics.{check, member}
 use Rattle.layout.specs.Image.{Disk, atrSingle, atrDouble, geometryOf, view}
 use Rattle.layout.specs.Header.{agrees, servedAs}
 use Rattle.layout.specs.Channels.{stateOf, withState}
-use Rattle.layout.specs.Status.{success, badImage, badHeader, badChannel, notServed, channelOpen, noChannel, channelClosed, writeOnly, readOnly, badDevice, badUnit, badName, badTable, notFound, fileLocked, fileHeld, badChain, nameTaken, noSlot, diskFull, endOfFile, lostChain, noDevice, badRequest, badLength}
+use Rattle.layout.specs.Status.{success, badImage, badHeader, badChannel, notServed, channelOpen, channelClosed, writeOnly, readOnly, badDevice, badUnit, badName, badTable, notFound, fileLocked, fileHeld, badChain, nameTaken, noSlot, diskFull, endOfFile, lostChain, noDevice, badRequest, badLength}
 use Rattle.rules.specs.Cio.{ImageOutcome, commandOf, Asks, cioCall}
 use Rattle.rules.specs.Recovery.{recoverCall}
 use Rattle.rules.specs.Sectors.{sectorCall}
@@ -31,18 +31,18 @@ use Rattle.rules.specs.WriteHeader.{headerCall}
 
 -- the status numbers that each command can answer, in the order of the table. An open for input
 abbrev pub readAnswers : List ℕ
-readAnswers = success ∷ channelOpen ∷ noChannel ∷ badDevice ∷ badUnit ∷ badName ∷ notFound ∷ fileHeld ∷ []
+readAnswers = success ∷ channelOpen ∷ badDevice ∷ badUnit ∷ badName ∷ notFound ∷ fileHeld ∷ []
 
 -- those of an open for output
 abbrev pub writeAnswers : List ℕ
-writeAnswers = success ∷ channelOpen ∷ noChannel ∷ badDevice ∷ badUnit ∷ badName ∷ badTable ∷ fileLocked ∷ fileHeld ∷ badChain ∷ noSlot ∷ diskFull ∷ []
+writeAnswers = success ∷ channelOpen ∷ badDevice ∷ badUnit ∷ badName ∷ badTable ∷ fileLocked ∷ fileHeld ∷ badChain ∷ noSlot ∷ diskFull ∷ []
 
 -- those of an open, by its direction
 unfoldable pub openAnswers : ℕ → List ℕ
 openAnswers direction =
     check (eqb direction 4) readAnswers λ _.
     check (eqb direction 8) writeAnswers λ _.
-    channelOpen ∷ noChannel ∷ notServed ∷ []
+    channelOpen ∷ notServed ∷ []
 
 -- those of a get
 abbrev pub getAnswers : List ℕ

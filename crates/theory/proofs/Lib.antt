@@ -55,3 +55,4 @@ pub mod Transfers
 pub mod SectorCalls
 pub mod Shown
 pub mod Demand1
+pub mod Never161
