@@ -135,8 +135,8 @@ enum {
 /*
  * Status numbers. The comment says when a call gives each. Where several apply,
  * dos_cio answers the first in this order: 255, 203, 205, 134, 132 or 168
- * (command), 129, 161, 133, 131 or 135, 168 (direction), 130, 160, 165, 163, 170,
- * 167, 200, 164, 201, 169, 162.
+ * (command), 129, 133, 131 or 135, 168 (direction), 130, 160, 165, 163, 170, 167,
+ * 200, 164, 201, 169, 162.
  */
 enum {
     DOS_SUCCESS = 1,           /* done */
@@ -151,7 +151,6 @@ enum {
     DOS_NO_DEVICE = 138,       /* sector call: device not $31 or unit not 1 */
     DOS_BAD_REQUEST = 139,     /* sector call: another command, or sector not 1 to 720 */
     DOS_BAD_UNIT = 160,        /* the name's device digit is not 1 */
-    DOS_NO_CHANNEL = 161,      /* open with all eight channels open */
     DOS_DISK_FULL = 162,       /* no free sector; of a put, count bytes were written */
     DOS_BAD_TABLE = 163,       /* the disk's volume table is not good */
     DOS_BAD_CHAIN = 164,       /* the file's sectors or its channel do not fit together;

@@ -257,6 +257,24 @@ static void refusals(void)
     EXPECT(by_name(1, DOS_DELETE, 0, "D:A"), DOS_BAD_TABLE, 0);
 }
 
+/* With all eight channels open, the one that an open names is open too. */
+static void all_open(void)
+{
+    uint8_t channel;
+
+    fresh();
+    make("D:A", 3);
+    for (channel = 0; channel < DOS_CHANNELS; channel++)
+        EXPECT(by_name(channel, DOS_OPEN, DOS_READ, "D:A"), DOS_SUCCESS, 0);
+    remember();
+    for (channel = 0; channel < DOS_CHANNELS; channel++) {
+        EXPECT(by_name(channel, DOS_OPEN, DOS_READ, "D:A"), DOS_CHANNEL_OPEN, 0);
+        EXPECT(by_name(channel, DOS_OPEN, DOS_WRITE, "D:B"), DOS_CHANNEL_OPEN, 0);
+        EXPECT(by_name(channel, DOS_OPEN, 5, "D:B"), DOS_CHANNEL_OPEN, 0);
+    }
+    HOLDS(unchanged());
+}
+
 /* A file whose link leads to a sector of another one: its bytes before that are read, and it is not deleted. */
 static void damage(void)
 {
@@ -439,6 +457,7 @@ int main(void)
         files();
         recovery();
         refusals();
+        all_open();
         damage();
         sectors();
         thin();

@@ -29,14 +29,13 @@ use Rattle.layout.specs.Image.{Disk, Geometry}
 use Rattle.layout.specs.Volume.{bitOn, bitOff, good, lowest}
 use Rattle.layout.specs.Directory.{flag, writeFlag, locked, found, find, is43}
 use Rattle.layout.specs.File.{clean}
-use Rattle.layout.specs.Channels.{stateOf, withState, openAt, allOpen, held}
+use Rattle.layout.specs.Channels.{stateOf, withState, held}
 use Rattle.layout.specs.Names.{wellFormed, nameAt, readAs, body, ending, comma, wholeEnd, named, readName, oldName, newName, readDevice}
 use Rattle.layout.specs.Status.{success, badChannel, badCommand, channelOpen, writeOnly, channelClosed, notServed, badDevice, badUnit, badName, badTable, notFound, fileLocked, fileHeld, badChain}
 use Rattle.layout.proofs.Check.{check-yes, check-no, by-check, by-name, by-found}
 use Rattle.layout.proofs.Channels.{with-id}
 use Rattle.layout.proofs.Logic.{and-left, and-right}
 use Rattle.layout.proofs.Members.{member-head}
-use Rattle.layout.proofs.Search.{all-fails}
 use Rattle.rules.specs.Get.{readable, gets, GetOutcome, getOn}
 use Rattle.rules.specs.Put.{writable, putFrom, puts, PutOutcome, putKeeps, putOn}
 use Rattle.rules.specs.Commands.{Effect, refused, done, putAt, passing, sought, target, mayChange, mayFree, both, aimed, openRead, openFound, openNew, openTarget, openWrite, openCall, closeState, closeCall, statusCall, renameAt, renameCall, deleteAt, deleteCall, flagAt, lockCall, unlockCall, formatCall, fileCommand, onClosed}
@@ -346,16 +345,10 @@ module _ (g : Geometry) (d : Disk) (t : Table) (c : Block) (text b : List ℕ) w
       free-row w s _ refl refl (no-chain _ s (a .at)) refl λ u h k.
       rewrites s (record { ready = r; direction = e; aim = a; unlocked = u; unheld = h; clear = k })
 
-  -- with its channel closed, not all eight are open: 161 does not come
-  not-all-open : Ready g d t c (Files Open) → allOpen t ≡ false
-  unfolding allOpen
-  not-all-open r = all-fails (openAt t) 8 (c .channel) (r .on .small) (r .shut)
-
   open-ends : Ready g d t c (Files Open) → A (Files Open) (openCall g d t (c .channel) (c .direction) text)
   unfolding openCall commandAnswers member
   open-ends r =
       let i = c .direction in
-      by-check (A (Files Open)) _ _ _ (λ e. absurd (true≢false (sym e ∙ not-all-open r))) λ _.
       by-check (A (Files Open)) _ _ _ (λ e. open-read-ends (rows (r .on) (open-4 i e)) r (eqb-true i 4 e)) λ e.
       by-check (A (Files Open)) _ _ _ (λ f. open-write-ends (rows (r .on) (open-8 i e f)) r (eqb-true i 8 f)) λ f.
       refuse-plain (rows (r .on) (open-else i e f)) _ refl
@@ -365,7 +358,6 @@ module _ (g : Geometry) (d : Disk) (t : Table) (c : Block) (text b : List ℕ) w
   unfolding onClosed fileCommand openCall
   open-input r e =
       check-no {A = Effect} _ _ _ (r .shut)
-      ∙ check-no {A = Effect} _ _ _ (not-all-open r)
       ∙ check-yes {A = Effect} (eqb (c .direction) 4) _ _ (rw e)
 
   -- 13 status

@@ -46,6 +46,7 @@ fn run_case(
     let mut steps = Vec::new();
     while let Some(step) = generator.next(pair.world()) {
         let sound = generator.is_sound();
+        let all_open = pair.world().all_open();
         let outcome = pair.step(&step, sound);
         *made += usize::from(matches!(step, Step::Call { .. }));
         steps.push(step);
@@ -53,7 +54,7 @@ fn run_case(
             Ok(None) => (),
             Ok(Some(reply)) => {
                 let kind = pair.world().kind;
-                statistics.count(kind, &steps[steps.len() - 1], reply.answer);
+                statistics.count(kind, all_open, &steps[steps.len() - 1], reply.answer);
             }
             Err(difference) => {
                 return Err(Box::new(Failure {

@@ -15,10 +15,11 @@ pub struct Statistics {
 }
 
 impl Statistics {
-    /// Counts the answer of a call on an image of the kind.
-    pub fn count(&mut self, image: Kind, step: &Step, answer: u64) {
+    /// Counts the answer of a call on an image of the kind, which found all eight channels open
+    /// or not.
+    pub fn count(&mut self, image: Kind, all_open: bool, step: &Step, answer: u64) {
         if let Step::Call { call, .. } = step {
-            let statuses = self.answers.entry(kind(call)).or_default();
+            let statuses = self.answers.entry(kind(call, all_open)).or_default();
             *statuses.entry((answer % 256) as u8).or_default() += 1;
             *self.images.entry(image).or_default() += 1;
         }
@@ -40,8 +41,9 @@ impl Statistics {
 }
 
 /// The kind of a call, for the table.
-fn kind(call: &Call) -> &'static str {
+fn kind(call: &Call, all_open: bool) -> &'static str {
     match call {
+        Call::Cio(cio) if cio.command == 3 && all_open => "open, all eight open",
         Call::Cio(cio) => kind_of_cio(cio),
         Call::Recover { .. } => "recover",
         Call::Sector { .. } => "sector",

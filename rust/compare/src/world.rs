@@ -110,6 +110,11 @@ impl World {
             .expect("one of the eight channels")
     }
 
+    /// Whether all eight channels are open.
+    pub fn all_open(&self) -> bool {
+        (0..8).all(|channel| matches!(self.record(channel)[0], 1 | 2))
+    }
+
     /// Zeros behind the image, as the shell lends them, and as many as are asked for.
     fn clear_behind_image(&mut self, lent: usize) {
         let room = self.image.len().max(lent);

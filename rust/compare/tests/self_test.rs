@@ -121,11 +121,11 @@ fn a_seed_gives_the_same_case_again() {
 fn every_status_comes_for_every_call_that_has_it() {
     let mut statistics = Statistics::default();
     let mut pair = Pair::new(("model", MODEL), ("model", MODEL));
-    assert!(run(&mut pair, 1, 40_000, &mut statistics).is_ok());
+    assert!(run(&mut pair, 1, 60_000, &mut statistics).is_ok());
     for kind in Kind::ALL {
         assert!(statistics.calls_on(kind) > 5_000, "{kind:?}");
     }
-    let expected: [(&str, &[u8]); 20] = [
+    let expected: [(&str, &[u8]); 21] = [
         ("close", &[1, 134, 164, 203, 205, 255]),
         (
             "delete",
@@ -151,6 +151,7 @@ fn every_status_comes_for_every_call_that_has_it() {
                 1, 129, 130, 134, 160, 162, 163, 164, 165, 167, 169, 200, 203, 205, 255,
             ],
         ),
+        ("open, all eight open", &[129, 134, 203, 205, 255]),
         ("open, other direction", &[129, 134, 168, 203, 205, 255]),
         ("other commands", &[132, 134, 168, 203, 205, 255]),
         ("put", &[1, 133, 134, 135, 162, 163, 164, 203, 205, 255]),

@@ -55,7 +55,6 @@ statuses! {
     NoDevice = 138, "no such device: only device $31, unit 1 answers";
     BadRequest = 139, "no such sector or sector command";
     BadUnit = 160, "no such drive: there is only drive 1";
-    NoChannel = 161, "all eight channels are open";
     DiskFull = 162, "no sector is free";
     BadTable = 163, "the disk's volume table is damaged";
     BadChain = 164, "the file's sectors, or its channel, do not fit together";
@@ -102,7 +101,7 @@ impl From<Status> for io::Error {
         let kind = match status {
             Status::NotFound => NotFound,
             Status::FileLocked | Status::WriteOnly | Status::ReadOnly => PermissionDenied,
-            Status::FileHeld | Status::ChannelOpen | Status::NoChannel => ResourceBusy,
+            Status::FileHeld | Status::ChannelOpen => ResourceBusy,
             Status::NameTaken => AlreadyExists,
             Status::DiskFull | Status::NoSlot => StorageFull,
             Status::EndOfFile => UnexpectedEof,

@@ -182,23 +182,19 @@ impl<V: Variant> Model<V> {
         Command::of(number)
     }
 
-    /// 129, then 161, which no call can meet: where all eight channels are open, so is the one
-    /// to be opened.
+    /// 129. With all eight channels open, the one that an open names is open too.
     fn require_closed(
         self,
         table: &Table,
         channel: Channel,
         command: Command,
     ) -> Result<(), Status> {
-        let all_open = command == Command::Open && table.iter().all(|record| record[0] != 0);
-        if self.wrong(Fault::AllOpenFirst) && all_open {
-            return Err(Status::AllChannelsOpen);
+        let all_open = || table.iter().all(|record| record[0] != 0);
+        if self.wrong(Fault::AllOpenFirst) && command == Command::Open && all_open() {
+            return Err(Status::Held);
         }
         if command.needs_closed() && channel != Channel::Closed {
             return Err(Status::ChannelOpen);
-        }
-        if all_open {
-            return Err(Status::AllChannelsOpen);
         }
         Ok(())
     }

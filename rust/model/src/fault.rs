@@ -86,7 +86,7 @@ faults! {
     ChannelBeforeImage: "134 comes before 203",
     ChannelBeforeHeader: "134 comes before 205",
     UnitBeforeHeader: "138 comes before 205",
-    AllOpenFirst: "161 comes before 129",
+    AllOpenFirst: "an open with all eight channels open answers 200 before 129",
     NoBytesFirst: "a get or put of no bytes answers 1 before 131 and 135",
     DirectionAfterName: "an open looks at its direction behind the name",
     SearchBeforeTable: "170 comes before 163",

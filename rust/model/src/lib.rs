@@ -1,8 +1,9 @@
 //! A second program for the rules of timing-desk disks.
 //!
 //! The paper *Timing-desk disks: what is served, and the precise rules* says what every call on
-//! a disk image does; request P13 of *Later customer requests* adds ATR images and double
-//! density. This crate does what they say, in plain Rust, written from them and from nothing else. It shares no code with the proved library, which makes it of use twice:
+//! a disk image does; of *Later customer requests* P8 takes its row 161 out and P13 adds ATR
+//! images and double density. This crate does what they say, in plain Rust, written from them
+//! and from nothing else. It shares no code with the proved library, which makes it of use twice:
 //! the two are compared byte for byte on many disks (package `compare`), and it is the measure
 //! for the library's speed.
 //!

@@ -18,8 +18,6 @@ pub enum Status {
     WrongCommand = 168,
     /// The command needs a closed channel.
     ChannelOpen = 129,
-    /// An open with all eight channels open.
-    AllChannelsOpen = 161,
     /// A get or put on a closed channel.
     ChannelClosed = 133,
     /// A get on a writing channel.

@@ -137,6 +137,14 @@ impl Generator {
         self.planned.push_back(Call::Cio(format).into());
     }
 
+    /// An open, in any direction.
+    pub(super) fn open(&mut self, world: &World) -> Call {
+        let kind = self
+            .random
+            .pick(&[Kind::OpenRead, Kind::OpenWrite, Kind::OpenOther]);
+        self.cio(world, kind)
+    }
+
     /// A CIO command. What it does not need is random.
     fn cio(&mut self, world: &World, kind: Kind) -> Call {
         let command = self.command(kind);

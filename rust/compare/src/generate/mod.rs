@@ -264,7 +264,7 @@ impl Generator {
         [kind, slot, sector, offset as u16, left as u16]
     }
 
-    /// Sets the record of one channel, or of all.
+    /// Sets the record of one channel, or opens all eight and then makes a call, mostly an open.
     fn set_records(&mut self, world: &World) {
         if self.random.chance(50) {
             for number in 0..8 {
@@ -272,7 +272,11 @@ impl Generator {
                 record[0] = self.random.pick(&[1, 2]);
                 self.planned.push_back(Step::Channel { number, record });
             }
-            let call = self.call(world);
+            let call = if self.random.chance(500) {
+                self.open(world)
+            } else {
+                self.call(world)
+            };
             self.planned.push_back(call.into());
             return;
         }

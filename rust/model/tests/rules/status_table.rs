@@ -96,14 +96,16 @@ fn row_129_open_channel() {
 }
 
 #[test]
-fn row_161_stands_behind_129() {
-    // Where all eight are open, the open's own channel is open too.
+fn with_all_eight_open_an_open_answers_129() {
+    // The open's own channel is open too, so that document 01's 161 never comes.
     let mut desk = two_files();
     for channel in 0..8 {
-        desk.set_record(channel, [1, 0, 0, 0, 1]);
+        desk.set_record(channel, [1 + channel as u16 % 2, 0, 0, 0, 1]);
     }
     for channel in 0..8 {
-        assert_eq!(desk.refused(channel, OPEN, 4, b"D:A\x9b"), 129);
+        for direction in 0..=255 {
+            assert_eq!(desk.refused(channel, OPEN, direction, b"D:A\x9b"), 129);
+        }
     }
 }
 
