@@ -20,10 +20,6 @@ use Rattle.rules.specs.Commands.{Effect, answer, passing, mayChange, may
 abbrev pub Down : Effect → Type 0
 Down call = (e : Effect) × (call ≡ e)
 
--- the same call, further down
-abbrev pub Further : {call : Effect} → Down call → Type 0
-Further {call} p = Down call
-
 module _ (call : Effect) {e : Effect} (p : call ≡ e) where
   pub told : {r : Answer} → r ≡ answer e → r ≡ answer call
   told q = q ∙ ap answer (sym p)
