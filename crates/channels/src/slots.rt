@@ -33,7 +33,7 @@ fn unused(m: Medium, image: &[u8], s: u16) -> bool
     (f == 0) | deleted(f)
 }
 
-// The lowest slot that a new file may take: unused, and held by no channel. The channels are looked at only for such a slot.
+// The lowest slot that a new file may take: unused, and held by no channel. The channels are looked at only for an unused one.
 pub fn new_slot(m: Medium, image: &[u8], t: Table) -> Found
     requires { ⌜ Whole m (now image) ⌝ }
     ensures { λ r. ⌜ TellsFound success noSlot (newSlot (view (geometryOf m) (now (image .entry))) t) r × Below r ⌝ }

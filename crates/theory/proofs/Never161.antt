@@ -3,9 +3,7 @@ use mathlib.Core.Bool.{true}
 use mathlib.Core.List.{List, [], _∷_}
 use mathlib.Core.Logic.{_⊎_, inl, inr}
 use mathlib.Core.Path.{_≡_, refl, ap, _∙_}
-use Prim.Native.Nat.{ℕ, _<_}
-use Rattle.layout.specs.declared.Table.{Table}
-use Rattle.layout.specs.declared.density.Medium.{Medium}
+use Prim.Native.Nat.{ℕ}
 use Rattle.layout.specs.declared.Served.{Served}
 use Rattle.layout.specs.declared.Served.the-variants.{As, Not}
 use Rattle.rules.specs.declared.Block.{Block}
@@ -14,7 +12,7 @@ use Rattle.rules.specs.declared.Transfer.the-variants.{Get, Put}
 use Rattle.rules.specs.declared.FileCommand.{FileCommand}
 use Rattle.rules.specs.declared.FileCommand.the-variants.{Open, Status, Rename, Delete, Lock, Unlock, Format}
 use Rattle.rules.specs.declared.Command.the-variants.{Moves, Files}
-use Rattle.layout.specs.Basics.{allBelow, member}
+use Rattle.layout.specs.Basics.{member}
 use Rattle.layout.specs.Image.{geometryOf, view}
 use Rattle.layout.specs.Header.{servedAs}
 use Rattle.layout.specs.Channels.{openAt}
@@ -23,7 +21,7 @@ use Rattle.layout.proofs.Check.{check-yes, by-check}
 use Rattle.layout.proofs.Members.{passes, passes-each, member-apart}
 use Rattle.layout.proofs.Search.{all-fails, all-at}
 use Rattle.rules.specs.Commands.{Effect, onClosed}
-use Rattle.rules.specs.Cio.{Outcome, ImageOutcome, Asks, command, cioCall}
+use Rattle.rules.specs.Cio.{Outcome, ImageOutcome, command}
 use Rattle.rules.specs.Demand1.{openAnswers, getAnswers, putAnswers, commandAnswers, answers, recoveryAnswers, sectorAnswers, headerAnswers, Answers, Unserved}
 use Rattle.rules.proofs.Ends.{by-command}
 use Rattle.rules.proofs.Does.{does}
@@ -88,19 +86,13 @@ module _ (Q : ℕ → Type 0) (q : (n : ℕ) → member n numbers ≡ true → Q
   }
 
 -- where all eight channels are open, so is the one that a command names
-named-open : (l : List ℕ) (m : Medium) → servedAs l ≡ As m → (t : Table) → allBelow 8 (openAt t) ≡ true
-    → (c : Block) (k : FileCommand) → Asks c (Files k) → c .channel < 8 → (text b : List ℕ) → cioCall l t c text b .answer .status ≡ channelOpen
-unfolding command onClosed
-named-open l m w t a c k e h text b =
-    let g = geometryOf m in
-    ap (λ (o : ImageOutcome). o .answer .status) (cio-on l m w t c text b)
-    ∙ ap (λ (o : Outcome). o .effect .status) (does g (view g l) t c text b (record { small = h; command = e }))
-    ∙ ap (λ (e : Effect). e .status) (check-yes {A = Effect} _ _ _ (all-at (openAt t) 8 a (c .channel) h))
-
 pub never161 : Never161
-unfolding member numbers
+unfolding command onClosed member numbers
 never161 = record {
-  closed = λ t i h e. all-fails (openAt t) 8 i h e;
-  named = named-open;
+  closed = λ t. all-fails (openAt t) 8;
+  named = λ l m w t a c k e h text b. let g = geometryOf m in
+      ap (λ (o : ImageOutcome). o .answer .status) (cio-on l m w t c text b)
+      ∙ ap (λ (o : Outcome). o .effect .status) (does g (view g l) t c text b (record { small = h; command = e }))
+      ∙ ap (λ (e : Effect). e .status) (check-yes {A = Effect} _ _ _ (all-at (openAt t) 8 a (c .channel) h));
   never = every-status _ (member-apart 161 numbers refl);
 }
