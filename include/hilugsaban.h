@@ -23,6 +23,9 @@
  * asks for more than that: every content of image, table, name and buffer is
  * legal and has a defined answer. A refused call changes nothing, except where
  * its comment says so.
+ *
+ * The calls that can change the image are told its write-protect notch too, see
+ * "The notch".
  */
 #ifndef HILUGSABAN_H
 #define HILUGSABAN_H
@@ -56,6 +59,26 @@ enum {
     DOS_IMAGE_BYTES = 92160,       /* a raw image */
     DOS_ATR_SINGLE_BYTES = 92176,  /* an ATR file of single density */
     DOS_ATR_DOUBLE_BYTES = 183952  /* an ATR file of double density */
+};
+
+/*
+ * The notch. An image is served with its write-protect notch open or closed. With
+ * it closed everything that could change the image is refused with 144, before
+ * names are read:
+ *
+ *   of dos_cio     DOS_OPEN with DOS_WRITE, DOS_PUT, DOS_RENAME, DOS_DELETE,
+ *                  DOS_LOCK, DOS_UNLOCK, DOS_FORMAT, and DOS_CLOSE of a writing
+ *                  channel, which then stays open
+ *   of dos_sector  DOS_SECTOR_PUT and DOS_SECTOR_WRITE
+ *   and            dos_recover, dos_thin_put, dos_header
+ *
+ * They are refused also where nothing would change: a put of no bytes, a close of
+ * a writing channel whose slot is not open for output. All else is served as with
+ * the notch open.
+ */
+enum {
+    DOS_NOTCH_OPEN = 0,
+    DOS_NOTCH_CLOSED = 1  /* as is any other value but 0 */
 };
 
 /* Sizes. */
@@ -135,8 +158,8 @@ enum {
 /*
  * Status numbers. The comment says when a call gives each. Where several apply,
  * dos_cio answers the first in this order: 255, 203, 205, 134, 132 or 168
- * (command), 129, 133, 131 or 135, 168 (direction), 130, 160, 165, 163, 170, 167,
- * 200, 164, 201, 169, 162.
+ * (command), 129, 133, 131 or 135, 168 (direction), 144, 130, 160, 165, 163, 170,
+ * 167, 200, 164, 201, 169, 162.
  */
 enum {
     DOS_SUCCESS = 1,           /* done */
@@ -150,6 +173,7 @@ enum {
     DOS_END_OF_FILE = 136,     /* the file ended before the buffer was full; count bytes came */
     DOS_NO_DEVICE = 138,       /* sector call: device not $31 or unit not 1 */
     DOS_BAD_REQUEST = 139,     /* sector call: another command, or sector not 1 to 720 */
+    DOS_WRITE_PROTECTED = 144, /* the call could change the image and the notch is closed */
     DOS_BAD_UNIT = 160,        /* the name's device digit is not 1 */
     DOS_DISK_FULL = 162,       /* no free sector; of a put, count bytes were written */
     DOS_BAD_TABLE = 163,       /* the disk's volume table is not good */
@@ -191,10 +215,10 @@ enum {
  * where the count is 0 (a get whose channel does not fit the disk answers 164
  * before it enters anything, and leaves the channel as it was); a put with 162
  * has written the count bytes that fitted; a close with 164 has closed its
- * channel.
+ * channel. A close with 144 has not.
  */
 uint64_t dos_cio(uint8_t *image, size_t image_length,
-                 uint16_t *table, size_t table_length,
+                 uint16_t *table, size_t table_length, uint8_t notch,
                  uint8_t channel, uint8_t command, uint8_t direction,
                  const uint8_t *name, size_t name_length,
                  uint8_t *buffer, size_t buffer_length);
@@ -202,18 +226,18 @@ uint64_t dos_cio(uint8_t *image, size_t image_length,
 /*
  * Takes the deleted file in a directory slot back. The answer is status +
  * 256 * count, count being the number of sectors taken back. Refusals in order:
- * 203, 205, 170, 163, 165, 201, 202. Recovery knows no channels.
+ * 203, 205, 144, 170, 163, 165, 201, 202. Recovery knows no channels.
  */
-uint64_t dos_recover(uint8_t *image, size_t image_length, uint8_t slot);
+uint64_t dos_recover(uint8_t *image, size_t image_length, uint8_t notch, uint8_t slot);
 
 /*
  * Reads a sector into the buffer or writes the buffer to it. The buffer is as
  * long as the sector: 128 bytes, or 256 for sectors 4 to 720 of double density.
  * The answer is status + 256 * count, count being that length on success.
- * Refusals in order: 203, 205, 138, 139, 204. A write is not held to any rule of
- * the file system.
+ * Refusals in order: 203, 205, 138, 139, 144 (of a write), 204. A write is not
+ * held to any rule of the file system.
  */
-uint64_t dos_sector(uint8_t *image, size_t image_length,
+uint64_t dos_sector(uint8_t *image, size_t image_length, uint8_t notch,
                     uint8_t device, uint8_t unit, uint8_t command, uint16_t sector,
                     uint8_t *buffer, size_t buffer_length);
 
@@ -230,13 +254,13 @@ uint64_t dos_show(const uint8_t *image, size_t image_length, uint8_t slot, uint1
 /*
  * Thin calls: get and put on one channel that is not in a table. channel has
  * five words. The answer is as for DOS_GET and DOS_PUT of dos_cio; 255 where
- * the length is not 5 or the kind is none, then 203, 205, 133, 131 or 135, and so
- * on.
+ * the length is not 5 or the kind is none, then 203, 205, 133, 131 or 135, 144 (of
+ * a put), and so on.
  */
 uint64_t dos_thin_get(const uint8_t *image, size_t image_length,
                       uint16_t *channel, size_t channel_length,
                       uint8_t *buffer, size_t buffer_length);
-uint64_t dos_thin_put(uint8_t *image, size_t image_length,
+uint64_t dos_thin_put(uint8_t *image, size_t image_length, uint8_t notch,
                       uint16_t *channel, size_t channel_length,
                       const uint8_t *buffer, size_t buffer_length);
 
@@ -250,9 +274,9 @@ uint64_t dos_name(const uint8_t *name, size_t name_length,
 /*
  * Writes the header of an ATR file into the first 16 bytes of an image of either
  * ATR length, whatever stands there. The answer is 1; or 203 for any other
- * length, a raw image's too.
+ * length, a raw image's too; or 144.
  */
-uint64_t dos_header(uint8_t *image, size_t image_length);
+uint64_t dos_header(uint8_t *image, size_t image_length, uint8_t notch);
 
 /* The status of an answer. */
 static inline uint8_t dos_answer_status(uint64_t answer)

@@ -1,6 +1,7 @@
 #!/bin/sh
 # The script ./desk: it runs the program from any folder, and where it cannot, it says why in a line and exits with 1.
-# And what it shows while the library is being proved, by tools/progress.sh: on lines as rt prints them, then on rt's own.
+# What the program refuses with the write-protect notch closed, and that it leaves the image's file alone then.
+# And what the script shows while the library is being proved, by tools/progress.sh: on lines as rt prints them, then on rt's own.
 set -u
 root=$(cd "$(dirname "$0")/.." && pwd)
 work=$(mktemp -d)
@@ -34,6 +35,124 @@ expect 1 "desk: no command frob: see desk --help" "$work/desk" help frob
 expect 1 "desk: no cargo on the PATH" env PATH="$work/tools" "$root/desk" demo
 expect 1 "desk: no $work/libcapi.a, where HILUGSABAN_LIB says it is" env HILUGSABAN_LIB="$work" "$root/desk" demo
 expect 1 "desk: the program could not be built" env RUSTC=/nonexistent "$root/desk" demo
+
+# All that can be seen of the image's file: inode, permissions, times, bytes; and the names of the files beside it.
+seen() {
+    stat -c '%i %a %y %z' MEET.ATR
+    cksum MEET.ATR
+    ls -A
+}
+
+# Expects that a command of the program is refused with 144, for a reason, and leaves the image's file alone.
+left_alone() {
+    reason=$1
+    shift
+    seen >"$work/before"
+    expect 1 "desk: MEET.ATR: 144 the write-protect notch is closed ($reason); the file was left alone" "$work/desk" "$@"
+    seen | diff "$work/before" - || { echo "the file was not left alone: $*"; failed=1; }
+}
+
+# Expects that the shell prints the lines of $work/wanted for those of $work/script, exits with a status, and leaves the file alone.
+shell_says() {
+    status=$1
+    shift
+    seen >"$work/before"
+    "$work/desk" shell "$@" <"$work/script" >"$work/printed" 2>/dev/null
+    answer=$?
+    if [ "$answer" -ne "$status" ] || ! diff "$work/wanted" "$work/printed"; then
+        echo "exit status $answer, expected $status and the lines marked <: shell $*"
+        failed=1
+    fi
+    seen | diff "$work/before" - || { echo "the file was not left alone: shell $*"; failed=1; }
+}
+
+# An image with a file and a deleted one that can be recovered, written long ago.
+mkdir "$work/meet"
+cd "$work/meet" || exit 1
+printf 'LANE 1  29.31' >heats.dat
+"$work/desk" new --atr MEET.ATR
+"$work/desk" put MEET.ATR heats.dat
+"$work/desk" put MEET.ATR heats.dat ENDS.DAT
+"$work/desk" delete MEET.ATR ENDS.DAT
+touch -d 2001-01-01 MEET.ATR
+
+# Every command that would change the image, with --protect, then with a file that nobody may write: root may not either.
+protect=--protect
+for reason in "--protect was given" "the file may not be written"; do
+    left_alone "$reason" put $protect MEET.ATR heats.dat
+    left_alone "$reason" put $protect MEET.ATR heats.dat NEW.DAT
+    left_alone "$reason" delete $protect MEET.ATR HEATS.DAT
+    left_alone "$reason" delete MEET.ATR none $protect
+    left_alone "$reason" recover MEET.ATR $protect 1
+    left_alone "$reason" recover $protect MEET.ATR ENDS.DAT
+    left_alone "$reason" rename $protect MEET.ATR HEATS.DAT OLD.DAT
+    left_alone "$reason" lock $protect MEET.ATR HEATS.DAT
+    left_alone "$reason" unlock $protect MEET.ATR HEATS.DAT
+
+    # What only reads is served, and the list tells what can be recovered.
+    expect 0 "   1  ENDS.DAT            1      13  deleted, can be recovered" "$work/desk" list $protect MEET.ATR
+    expect 0 "LANE 1  29.31" "$work/desk" get $protect MEET.ATR HEATS.DAT -
+    expect 0 "4C 41 4E 45" "$work/desk" sector $protect MEET.ATR 4
+    "$work/desk" convert $protect MEET.ATR MEET.XFD && cmp -i 16:0 MEET.ATR MEET.XFD && rm MEET.XFD || failed=1
+
+    # The calls that no command makes. With the notch open the image in memory can be changed; the file is left alone all the same.
+    cat >"$work/script" <<'END'
+format
+sector $31 1 $57 4 128*00
+header
+delete HEATS.DAT
+poke 4 0 0
+notch open
+delete HEATS.DAT
+save
+END
+    cat >"$work/wanted" <<END
+the notch is closed: $reason
+144 the write-protect notch is closed; count 0
+144 the write-protect notch is closed; count 0
+144 the write-protect notch is closed; count 0
+144 the write-protect notch is closed; count 0
+? 144 the write-protect notch is closed
+the notch is open, but save leaves the file alone: $reason
+1 success; count 0
+? $(pwd -P)/MEET.ATR: left alone: $reason
+changes not saved
+END
+    shell_says 1 $protect MEET.ATR
+
+    protect=''
+    chmod 0444 MEET.ATR
+done
+chmod 0644 MEET.ATR
+expect 1 "desk: no option --protect: see desk new --help" "$work/desk" new --protect NEW.XFD
+
+# A writing channel whose close answers 144 stays open, and closes when the notch is open again.
+cat >"$work/script" <<'END'
+notch
+open 0 write NEW.DAT
+put 0 "abc"
+notch closed
+delete HEATS.DAT
+close 0
+put 0 "d"
+notch open
+close 0
+delete HEATS.DAT
+END
+cat >"$work/wanted" <<'END'
+the notch is open
+1 success; count 0
+1 success; count 3
+the notch is closed
+144 the write-protect notch is closed; count 0
+144 the write-protect notch is closed; count 0
+144 the write-protect notch is closed; count 0
+the notch is open
+1 success; count 0
+1 success; count 0
+changes not saved
+END
+shell_says 0 MEET.ATR
 
 # Shows a command's run, the lines in $work/raw; expects an exit status, and without the times the lines of $work/wanted.
 shows() {

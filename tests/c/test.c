@@ -24,6 +24,9 @@ static const struct kind kinds[] = {
 /* The kind that is tested. */
 static const struct kind *kind = &kinds[0];
 
+/* The notch that by_name, by_buffer, recover and on_sector call with. */
+static uint8_t notch = DOS_NOTCH_OPEN;
+
 static uint8_t image[DOS_ATR_DOUBLE_BYTES + 1];
 static uint8_t before[DOS_ATR_DOUBLE_BYTES + 1];
 static uint16_t table[DOS_TABLE_WORDS + 1];
@@ -54,14 +57,14 @@ static void expect_true(int line, int holds)
 /* A call with a name, which is lent with its ending 0. */
 static uint64_t by_name(uint8_t channel, uint8_t command, uint8_t direction, const char *name)
 {
-    return dos_cio(image, kind->length, table, DOS_TABLE_WORDS, channel, command, direction,
+    return dos_cio(image, kind->length, table, DOS_TABLE_WORDS, notch, channel, command, direction,
                    (const uint8_t *)name, strlen(name) + 1, NULL, 0);
 }
 
 /* A call with a buffer. */
 static uint64_t by_buffer(uint8_t channel, uint8_t command, uint8_t *bytes, size_t length)
 {
-    return dos_cio(image, kind->length, table, DOS_TABLE_WORDS, channel, command, 0, NULL, 0, bytes, length);
+    return dos_cio(image, kind->length, table, DOS_TABLE_WORDS, notch, channel, command, 0, NULL, 0, bytes, length);
 }
 
 /* A fresh disk with all channels closed. */
@@ -70,7 +73,7 @@ static void fresh(void)
     memset(table, 0, sizeof table);
     memset(image, 0xA5, sizeof image);
     if (kind->header)
-        EXPECT(dos_header(image, kind->length), DOS_SUCCESS, 0);
+        EXPECT(dos_header(image, kind->length, DOS_NOTCH_OPEN), DOS_SUCCESS, 0);
     EXPECT(by_name(0, DOS_FORMAT, 0, "D:"), DOS_SUCCESS, 0);
 }
 
@@ -84,7 +87,7 @@ static void make(const char *name, size_t length)
 
 static uint64_t recover(uint8_t slot)
 {
-    return dos_recover(image, kind->length, slot);
+    return dos_recover(image, kind->length, notch, slot);
 }
 
 static uint8_t *sector(unsigned number)
@@ -181,7 +184,7 @@ static void recovery(void)
     EXPECT(by_name(0, DOS_RENAME, 0, "D:A,B"), DOS_SUCCESS, 0);
     EXPECT(recover(1), DOS_NAME_TAKEN, 0);
     EXPECT(recover(64), DOS_NOT_FOUND, 0);
-    EXPECT(dos_recover(image, kind->length - 1, 1), DOS_BAD_IMAGE, 0);
+    EXPECT(dos_recover(image, kind->length - 1, 0, 1), DOS_BAD_IMAGE, 0);
 }
 
 /* Examples 2 and 3: names, and what a refused one leaves. */
@@ -228,9 +231,9 @@ static void refusals(void)
     EXPECT(by_name(2, DOS_OPEN, DOS_WRITE, "D:B"), DOS_SUCCESS, 0);
     remember();
     memcpy(words, table, sizeof words);
-    EXPECT(dos_cio(image, kind->length, table, 39, 0, 13, 0, text, 4, NULL, 0), DOS_BAD_ARGUMENT, 0);
-    EXPECT(dos_cio(image, kind->length, table, 41, 0, 13, 0, text, 4, NULL, 0), DOS_BAD_ARGUMENT, 0);
-    EXPECT(dos_cio(image, kind->length + 1, table, 40, 0, 13, 0, text, 4, NULL, 0), DOS_BAD_IMAGE, 0);
+    EXPECT(dos_cio(image, kind->length, table, 39, 0, 0, 13, 0, text, 4, NULL, 0), DOS_BAD_ARGUMENT, 0);
+    EXPECT(dos_cio(image, kind->length, table, 41, 0, 0, 13, 0, text, 4, NULL, 0), DOS_BAD_ARGUMENT, 0);
+    EXPECT(dos_cio(image, kind->length + 1, table, 40, 0, 0, 13, 0, text, 4, NULL, 0), DOS_BAD_IMAGE, 0);
     EXPECT(by_name(8, DOS_STATUS, 0, "D:A"), DOS_BAD_CHANNEL, 0);
     EXPECT(by_name(0, 2, 0, "D:A"), DOS_BAD_COMMAND, 0);
     EXPECT(by_name(0, 99, 0, "D:A"), DOS_NOT_SERVED, 0);
@@ -295,7 +298,7 @@ static void damage(void)
 /* A sector call to the device that answers, with a buffer of that length. */
 static uint64_t on_sector(uint8_t command, uint16_t number, uint8_t *block, size_t length)
 {
-    return dos_sector(image, kind->length, DOS_SECTOR_DEVICE, DOS_SECTOR_UNIT, command, number, block, length);
+    return dos_sector(image, kind->length, notch, DOS_SECTOR_DEVICE, DOS_SECTOR_UNIT, command, number, block, length);
 }
 
 /* Sector calls and showing. */
@@ -316,9 +319,9 @@ static void sectors(void)
     EXPECT(on_sector(DOS_SECTOR_WRITE, 3, block, 128), DOS_SUCCESS, 128);
     HOLDS(memcmp(block, sector(3), 128) == 0 && sector(3) + 128 == sector(4));
     remember();
-    EXPECT(dos_sector(image, 0, DOS_SECTOR_DEVICE, DOS_SECTOR_UNIT, DOS_SECTOR_READ, 4, block, size), DOS_BAD_IMAGE, 0);
-    EXPECT(dos_sector(image, kind->length, 0x32, DOS_SECTOR_UNIT, DOS_SECTOR_READ, 4, block, size), DOS_NO_DEVICE, 0);
-    EXPECT(dos_sector(image, kind->length, DOS_SECTOR_DEVICE, 2, DOS_SECTOR_READ, 4, block, size), DOS_NO_DEVICE, 0);
+    EXPECT(dos_sector(image, 0, 0, DOS_SECTOR_DEVICE, DOS_SECTOR_UNIT, DOS_SECTOR_READ, 4, block, size), DOS_BAD_IMAGE, 0);
+    EXPECT(dos_sector(image, kind->length, 0, 0x32, DOS_SECTOR_UNIT, DOS_SECTOR_READ, 4, block, size), DOS_NO_DEVICE, 0);
+    EXPECT(dos_sector(image, kind->length, 0, DOS_SECTOR_DEVICE, 2, DOS_SECTOR_READ, 4, block, size), DOS_NO_DEVICE, 0);
     EXPECT(on_sector(0x53, 4, block, size), DOS_BAD_REQUEST, 0);
     EXPECT(on_sector(DOS_SECTOR_READ, 0, block, size), DOS_BAD_REQUEST, 0);
     EXPECT(on_sector(DOS_SECTOR_WRITE, 721, block, size), DOS_BAD_REQUEST, 0);
@@ -349,7 +352,7 @@ static void thin(void)
     fresh();
     EXPECT(by_name(0, DOS_OPEN, DOS_WRITE, "D:A"), DOS_SUCCESS, 0);
     memcpy(writer, table, sizeof writer);
-    EXPECT(dos_thin_put(image, kind->length, writer, 5, buffer, length), DOS_SUCCESS, length);
+    EXPECT(dos_thin_put(image, kind->length, 0, writer, 5, buffer, length), DOS_SUCCESS, length);
     HOLDS(writer[DOS_WORD_KIND] == DOS_KIND_WRITING && writer[DOS_WORD_SECTOR] == 6);
     EXPECT(dos_thin_get(image, kind->length, reader, 5, out, 10), DOS_SUCCESS, 10);
     EXPECT(dos_thin_get(image, kind->length, reader, 5, out + 10, length - 10), DOS_SUCCESS, length - 10);
@@ -357,13 +360,13 @@ static void thin(void)
     HOLDS(reader[DOS_WORD_SECTOR] == 6 && reader[DOS_WORD_OFFSET] == 50 && reader[DOS_WORD_LEFT] == 0);
     EXPECT(dos_thin_get(image, kind->length, reader, 5, out, 1), DOS_END_OF_FILE, 0);
     EXPECT(dos_thin_get(image, kind->length, writer, 5, out, 1), DOS_WRITE_ONLY, 0);
-    EXPECT(dos_thin_put(image, kind->length, reader, 5, buffer, 1), DOS_READ_ONLY, 0);
+    EXPECT(dos_thin_put(image, kind->length, 0, reader, 5, buffer, 1), DOS_READ_ONLY, 0);
     EXPECT(dos_thin_get(image, kind->length, closed, 5, out, 1), DOS_CHANNEL_CLOSED, 0);
-    EXPECT(dos_thin_put(image, kind->length, closed, 5, buffer, 1), DOS_CHANNEL_CLOSED, 0);
+    EXPECT(dos_thin_put(image, kind->length, 0, closed, 5, buffer, 1), DOS_CHANNEL_CLOSED, 0);
     EXPECT(dos_thin_get(image, kind->length - 1, reader, 5, out, 1), DOS_BAD_IMAGE, 0);
-    EXPECT(dos_thin_put(image, kind->length - 1, writer, 5, buffer, 1), DOS_BAD_IMAGE, 0);
+    EXPECT(dos_thin_put(image, kind->length - 1, 0, writer, 5, buffer, 1), DOS_BAD_IMAGE, 0);
     EXPECT(dos_thin_get(image, kind->length, reader, 4, out, 1), DOS_BAD_ARGUMENT, 0);
-    EXPECT(dos_thin_put(image, kind->length, writer, 6, buffer, 1), DOS_BAD_ARGUMENT, 0);
+    EXPECT(dos_thin_put(image, kind->length, 0, writer, 6, buffer, 1), DOS_BAD_ARGUMENT, 0);
     closed[DOS_WORD_KIND] = 3;
     EXPECT(dos_thin_get(image, kind->length, closed, 5, out, 1), DOS_BAD_ARGUMENT, 0);
 }
@@ -382,20 +385,20 @@ static void nothing_lent(void)
     EXPECT(by_buffer(0, DOS_STATUS, NULL, 0), DOS_BAD_DEVICE, 0);
     EXPECT(by_buffer(0, DOS_RENAME, NULL, 0), DOS_BAD_DEVICE, 0);
     EXPECT(by_buffer(0, DOS_FORMAT, NULL, 0), DOS_BAD_DEVICE, 0);
-    EXPECT(dos_cio(image, kind->length, NULL, 0, 0, DOS_GET, 0, NULL, 0, NULL, 0), DOS_BAD_ARGUMENT, 0);
-    EXPECT(dos_cio(NULL, 0, table, DOS_TABLE_WORDS, 0, DOS_GET, 0, NULL, 0, NULL, 0), DOS_BAD_IMAGE, 0);
-    EXPECT(dos_recover(NULL, 0, 0), DOS_BAD_IMAGE, 0);
-    EXPECT(dos_sector(NULL, 0, DOS_SECTOR_DEVICE, 1, DOS_SECTOR_READ, 1, NULL, 0), DOS_BAD_IMAGE, 0);
-    EXPECT(dos_sector(image, kind->length, DOS_SECTOR_DEVICE, 1, DOS_SECTOR_READ, 1, NULL, 0), DOS_BAD_LENGTH, 0);
+    EXPECT(dos_cio(image, kind->length, NULL, 0, 0, 0, DOS_GET, 0, NULL, 0, NULL, 0), DOS_BAD_ARGUMENT, 0);
+    EXPECT(dos_cio(NULL, 0, table, DOS_TABLE_WORDS, 0, 0, DOS_GET, 0, NULL, 0, NULL, 0), DOS_BAD_IMAGE, 0);
+    EXPECT(dos_recover(NULL, 0, 0, 0), DOS_BAD_IMAGE, 0);
+    EXPECT(dos_sector(NULL, 0, 0, DOS_SECTOR_DEVICE, 1, DOS_SECTOR_READ, 1, NULL, 0), DOS_BAD_IMAGE, 0);
+    EXPECT(dos_sector(image, kind->length, 0, DOS_SECTOR_DEVICE, 1, DOS_SECTOR_READ, 1, NULL, 0), DOS_BAD_LENGTH, 0);
     HOLDS(dos_show(NULL, 0, 0, 4) == 0);
     EXPECT(dos_thin_get(image, kind->length, channel, 5, NULL, 0), DOS_SUCCESS, 0);
     EXPECT(dos_thin_get(NULL, 0, channel, 5, NULL, 0), DOS_BAD_IMAGE, 0);
     EXPECT(dos_thin_get(image, kind->length, NULL, 0, NULL, 0), DOS_BAD_ARGUMENT, 0);
-    EXPECT(dos_thin_put(image, kind->length, table + 10, 5, NULL, 0), DOS_SUCCESS, 0);
-    EXPECT(dos_thin_put(NULL, 0, NULL, 0, NULL, 0), DOS_BAD_ARGUMENT, 0);
+    EXPECT(dos_thin_put(image, kind->length, 0, table + 10, 5, NULL, 0), DOS_SUCCESS, 0);
+    EXPECT(dos_thin_put(NULL, 0, 0, NULL, 0, NULL, 0), DOS_BAD_ARGUMENT, 0);
     EXPECT(dos_name(NULL, 0, buffer, DOS_NAME_BYTES), DOS_BAD_DEVICE, 0);
     EXPECT(dos_name(NULL, 0, NULL, 0), DOS_BAD_ARGUMENT, 0);
-    EXPECT(dos_header(NULL, 0), DOS_BAD_IMAGE, 0);
+    EXPECT(dos_header(NULL, 0, 0), DOS_BAD_IMAGE, 0);
 }
 
 /* The header of an ATR file: what is written, what has to agree, and where 205 stands. */
@@ -409,14 +412,14 @@ static void headers(void)
     memset(image, 0xA5, sizeof image);
     remember();
     if (!kind->header) {
-        EXPECT(dos_header(image, kind->length), DOS_BAD_IMAGE, 0);
+        EXPECT(dos_header(image, kind->length, 0), DOS_BAD_IMAGE, 0);
         HOLDS(unchanged());
         return;
     }
-    EXPECT(dos_header(image, kind->length - 1), DOS_BAD_IMAGE, 0);
-    EXPECT(dos_header(image, kind->length + 1), DOS_BAD_IMAGE, 0);
+    EXPECT(dos_header(image, kind->length - 1, 0), DOS_BAD_IMAGE, 0);
+    EXPECT(dos_header(image, kind->length + 1, 0), DOS_BAD_IMAGE, 0);
     HOLDS(unchanged());
-    EXPECT(dos_header(image, kind->length), DOS_SUCCESS, 0);
+    EXPECT(dos_header(image, kind->length, 0), DOS_SUCCESS, 0);
     HOLDS(memcmp(image, kind->size == DOS_SECTOR_BYTES ? single_header : double_header, 7) == 0);
     for (i = 7; i < DOS_HEADER_BYTES; i++)
         HOLDS(image[i] == 0);
@@ -428,12 +431,12 @@ static void headers(void)
         image[i] ^= 1;
         remember();
         EXPECT(by_name(8, DOS_STATUS, 0, "D:A"), DOS_BAD_HEADER, 0);
-        EXPECT(dos_cio(image, kind->length - 1, table, 40, 8, 0, 0, NULL, 0, NULL, 0), DOS_BAD_IMAGE, 0);
-        EXPECT(dos_cio(image, kind->length, table, 39, 8, 0, 0, NULL, 0, NULL, 0), DOS_BAD_ARGUMENT, 0);
+        EXPECT(dos_cio(image, kind->length - 1, table, 40, 0, 8, 0, 0, NULL, 0, NULL, 0), DOS_BAD_IMAGE, 0);
+        EXPECT(dos_cio(image, kind->length, table, 39, 0, 8, 0, 0, NULL, 0, NULL, 0), DOS_BAD_ARGUMENT, 0);
         EXPECT(recover(64), DOS_BAD_HEADER, 0);
-        EXPECT(dos_sector(image, kind->length, 0, 0, 0, 0, NULL, 0), DOS_BAD_HEADER, 0);
+        EXPECT(dos_sector(image, kind->length, 0, 0, 0, 0, 0, NULL, 0), DOS_BAD_HEADER, 0);
         EXPECT(dos_thin_get(image, kind->length, closed, 5, NULL, 0), DOS_BAD_HEADER, 0);
-        EXPECT(dos_thin_put(image, kind->length, closed, 5, NULL, 0), DOS_BAD_HEADER, 0);
+        EXPECT(dos_thin_put(image, kind->length, 0, closed, 5, NULL, 0), DOS_BAD_HEADER, 0);
         HOLDS(dos_show(image, kind->length, 0, 4) == 0);
         HOLDS(unchanged());
         image[i] ^= 1;
@@ -443,6 +446,202 @@ static void headers(void)
     remember();
     EXPECT(by_name(0, DOS_FORMAT, 0, "D:"), DOS_SUCCESS, 0);
     HOLDS(memcmp(image, before, DOS_HEADER_BYTES) == 0);
+}
+
+/* The file A in slot 0, which channel 1 reads; a deleted file in slot 1; the file C in slot 2, which channel 2 writes. */
+static void busy_disk(void)
+{
+    fresh();
+    make("D:A", 3);
+    make("D:B", kind->data + 1);
+    EXPECT(by_name(1, DOS_OPEN, DOS_READ, "D:A"), DOS_SUCCESS, 0);
+    EXPECT(by_name(2, DOS_OPEN, DOS_WRITE, "D:C"), DOS_SUCCESS, 0);
+    EXPECT(by_name(0, DOS_DELETE, 0, "D:B"), DOS_SUCCESS, 0);
+}
+
+/* With the notch closed every call that could change the image answers 144 and changes nothing; with it open they are served. */
+static void notch_refuses(void)
+{
+    static const uint8_t closed_notches[] = {DOS_NOTCH_CLOSED, 2, 255};
+    uint16_t words[DOS_TABLE_WORDS];
+    uint16_t writer[DOS_CHANNEL_WORDS];
+    uint8_t block[DOS_DOUBLE_SECTOR_BYTES];
+    size_t size = kind->size;
+    size_t i;
+
+    busy_disk();
+    remember();
+    memcpy(words, table, sizeof words);
+    memcpy(writer, table + 10, sizeof writer);
+    memcpy(block, buffer, sizeof block);
+    for (i = 0; i < sizeof closed_notches; i++) {
+        notch = closed_notches[i];
+        EXPECT(by_name(0, DOS_OPEN, DOS_WRITE, "D:A"), DOS_WRITE_PROTECTED, 0);
+        EXPECT(by_name(0, DOS_OPEN, DOS_WRITE, "D:D"), DOS_WRITE_PROTECTED, 0);
+        EXPECT(by_buffer(2, DOS_PUT, block, size), DOS_WRITE_PROTECTED, 0);
+        EXPECT(by_buffer(2, DOS_PUT, NULL, 0), DOS_WRITE_PROTECTED, 0);
+        EXPECT(by_buffer(2, DOS_CLOSE, NULL, 0), DOS_WRITE_PROTECTED, 0);
+        EXPECT(by_name(0, DOS_RENAME, 0, "D:A,D"), DOS_WRITE_PROTECTED, 0);
+        EXPECT(by_name(0, DOS_DELETE, 0, "D:A"), DOS_WRITE_PROTECTED, 0);
+        EXPECT(by_name(0, DOS_LOCK, 0, "D:A"), DOS_WRITE_PROTECTED, 0);
+        EXPECT(by_name(0, DOS_UNLOCK, 0, "D:A"), DOS_WRITE_PROTECTED, 0);
+        EXPECT(by_name(0, DOS_FORMAT, 0, "D:"), DOS_WRITE_PROTECTED, 0);
+        EXPECT(recover(1), DOS_WRITE_PROTECTED, 0);
+        EXPECT(on_sector(DOS_SECTOR_PUT, 4, block, size), DOS_WRITE_PROTECTED, 0);
+        EXPECT(on_sector(DOS_SECTOR_WRITE, 4, block, size), DOS_WRITE_PROTECTED, 0);
+        EXPECT(dos_thin_put(image, kind->length, notch, writer, 5, block, size), DOS_WRITE_PROTECTED, 0);
+        EXPECT(dos_thin_put(image, kind->length, notch, writer, 5, NULL, 0), DOS_WRITE_PROTECTED, 0);
+        if (kind->header)
+            EXPECT(dos_header(image, kind->length, notch), DOS_WRITE_PROTECTED, 0);
+    }
+    notch = DOS_NOTCH_OPEN;
+    HOLDS(unchanged() && memcmp(words, table, sizeof words) == 0);
+    HOLDS(memcmp(writer, table + 10, sizeof writer) == 0 && memcmp(block, buffer, sizeof block) == 0);
+
+    EXPECT(dos_thin_put(image, kind->length, 0, writer, 5, block, size), DOS_SUCCESS, size);
+    EXPECT(by_buffer(2, DOS_CLOSE, NULL, 0), DOS_SUCCESS, 0);
+    EXPECT(by_buffer(1, DOS_CLOSE, NULL, 0), DOS_SUCCESS, 0);
+    EXPECT(by_name(0, DOS_LOCK, 0, "D:A"), DOS_SUCCESS, 0);
+    EXPECT(by_name(0, DOS_UNLOCK, 0, "D:A"), DOS_SUCCESS, 0);
+    EXPECT(by_name(0, DOS_RENAME, 0, "D:A,D"), DOS_SUCCESS, 0);
+    EXPECT(by_name(0, DOS_DELETE, 0, "D:D"), DOS_SUCCESS, 0);
+    EXPECT(recover(0), DOS_SUCCESS, 1);
+    EXPECT(on_sector(DOS_SECTOR_PUT, 4, block, size), DOS_SUCCESS, size);
+    EXPECT(on_sector(DOS_SECTOR_WRITE, 4, block, size), DOS_SUCCESS, size);
+    if (kind->header)
+        EXPECT(dos_header(image, kind->length, 0), DOS_SUCCESS, 0);
+    EXPECT(by_name(0, DOS_FORMAT, 0, "D:"), DOS_SUCCESS, 0);
+}
+
+/* What only reads is served with the notch closed. */
+static void notch_reads(void)
+{
+    uint16_t reader[DOS_CHANNEL_WORDS] = {DOS_KIND_READING, 0, 0, 0, 1};
+    uint8_t out[DOS_DOUBLE_SECTOR_BYTES];
+
+    busy_disk();
+    remember();
+    notch = DOS_NOTCH_CLOSED;
+    EXPECT(by_buffer(1, DOS_GET, out, 3), DOS_SUCCESS, 3);
+    EXPECT(by_buffer(1, DOS_CLOSE, NULL, 0), DOS_SUCCESS, 0);
+    EXPECT(by_buffer(1, DOS_CLOSE, NULL, 0), DOS_SUCCESS, 0);
+    EXPECT(by_name(1, DOS_OPEN, DOS_READ, "D:A"), DOS_SUCCESS, 0);
+    EXPECT(by_name(0, DOS_STATUS, 0, "D:A"), DOS_SUCCESS, 0);
+    EXPECT(by_name(0, DOS_STATUS, 0, "E:A"), DOS_BAD_DEVICE, 0);
+    EXPECT(on_sector(DOS_SECTOR_READ, 4, out, kind->size), DOS_SUCCESS, kind->size);
+    EXPECT(on_sector(DOS_SECTOR_READ, 4, out, kind->size - 1), DOS_BAD_LENGTH, 0);
+    EXPECT(dos_thin_get(image, kind->length, reader, 5, out, 3), DOS_SUCCESS, 3);
+    notch = DOS_NOTCH_OPEN;
+    HOLDS(unchanged() && memcmp(out, buffer, 3) == 0);
+}
+
+/* A writing channel stays open where its close answers 144, also one whose slot is not open for output. */
+static void notch_close(void)
+{
+    uint16_t words[DOS_TABLE_WORDS];
+
+    busy_disk();
+    remember();
+    table[10 + DOS_WORD_OFFSET] = 7;
+    memcpy(words, table, sizeof words);
+    EXPECT(dos_cio(image, kind->length, table, 40, 1, 2, DOS_CLOSE, 0, NULL, 0, NULL, 0), DOS_WRITE_PROTECTED, 0);
+    EXPECT(dos_cio(image, kind->length, table, 40, 255, 2, DOS_CLOSE, 0, NULL, 0, NULL, 0), DOS_WRITE_PROTECTED, 0);
+    HOLDS(unchanged() && memcmp(words, table, sizeof words) == 0);
+    EXPECT(dos_cio(image, kind->length, table, 40, 0, 2, DOS_CLOSE, 0, NULL, 0, NULL, 0), DOS_SUCCESS, 0);
+    HOLDS(table[10] == DOS_KIND_CLOSED && !unchanged());
+
+    table[10] = DOS_KIND_WRITING;
+    remember();
+    memcpy(words, table, sizeof words);
+    EXPECT(dos_cio(image, kind->length, table, 40, 1, 2, DOS_CLOSE, 0, NULL, 0, NULL, 0), DOS_WRITE_PROTECTED, 0);
+    HOLDS(memcmp(words, table, sizeof words) == 0);
+    EXPECT(dos_cio(image, kind->length, table, 40, 0, 2, DOS_CLOSE, 0, NULL, 0, NULL, 0), DOS_BAD_CHAIN, 0);
+    HOLDS(table[10] == DOS_KIND_CLOSED && unchanged());
+}
+
+/* What is refused before 144. */
+static void before_notch(void)
+{
+    uint16_t writer[DOS_CHANNEL_WORDS];
+    uint16_t closed[DOS_CHANNEL_WORDS] = {DOS_KIND_CLOSED, 0, 0, 0, 0};
+    uint8_t block[DOS_DOUBLE_SECTOR_BYTES];
+    size_t length = kind->length;
+
+    busy_disk();
+    memcpy(writer, table + 10, sizeof writer);
+    memset(block, 0, sizeof block);
+    remember();
+    notch = 255;
+    EXPECT(dos_cio(image, length - 1, table, 39, notch, 0, DOS_DELETE, 0, NULL, 0, NULL, 0), DOS_BAD_ARGUMENT, 0);
+    EXPECT(dos_thin_put(image, length - 1, notch, writer, 6, NULL, 0), DOS_BAD_ARGUMENT, 0);
+    EXPECT(dos_cio(image, length - 1, table, 40, notch, 0, DOS_DELETE, 0, NULL, 0, NULL, 0), DOS_BAD_IMAGE, 0);
+    EXPECT(dos_recover(image, length - 1, notch, 1), DOS_BAD_IMAGE, 0);
+    EXPECT(dos_sector(image, length - 1, notch, 0x31, 1, DOS_SECTOR_PUT, 4, block, kind->size), DOS_BAD_IMAGE, 0);
+    EXPECT(dos_thin_put(image, length - 1, notch, writer, 5, NULL, 0), DOS_BAD_IMAGE, 0);
+    EXPECT(dos_header(image, length - 1, notch), DOS_BAD_IMAGE, 0);
+    EXPECT(dos_header(image, DOS_IMAGE_BYTES, notch), DOS_BAD_IMAGE, 0);
+    EXPECT(by_name(8, DOS_DELETE, 0, "D:A"), DOS_BAD_CHANNEL, 0);
+    EXPECT(by_name(0, 2, 0, "D:A"), DOS_BAD_COMMAND, 0);
+    EXPECT(by_buffer(2, 9, block, 1), DOS_NOT_SERVED, 0);
+    EXPECT(by_name(1, DOS_OPEN, DOS_WRITE, "D:D"), DOS_CHANNEL_OPEN, 0);
+    EXPECT(by_name(1, DOS_DELETE, 0, "D:A"), DOS_CHANNEL_OPEN, 0);
+    EXPECT(by_name(2, DOS_FORMAT, 0, "D:"), DOS_CHANNEL_OPEN, 0);
+    EXPECT(by_buffer(0, DOS_PUT, block, 1), DOS_CHANNEL_CLOSED, 0);
+    EXPECT(by_buffer(0, DOS_PUT, NULL, 0), DOS_CHANNEL_CLOSED, 0);
+    EXPECT(by_buffer(1, DOS_PUT, block, 1), DOS_READ_ONLY, 0);
+    EXPECT(by_buffer(1, DOS_PUT, NULL, 0), DOS_READ_ONLY, 0);
+    EXPECT(by_buffer(2, DOS_GET, block, 1), DOS_WRITE_ONLY, 0);
+    EXPECT(by_name(0, DOS_OPEN, 5, "E:A"), DOS_NOT_SERVED, 0);
+    EXPECT(dos_thin_put(image, length, notch, closed, 5, NULL, 0), DOS_CHANNEL_CLOSED, 0);
+    EXPECT(dos_thin_put(image, length, notch, table + 5, 5, NULL, 0), DOS_READ_ONLY, 0);
+    EXPECT(dos_sector(image, length, notch, 0x32, 1, DOS_SECTOR_PUT, 4, block, kind->size), DOS_NO_DEVICE, 0);
+    EXPECT(on_sector(DOS_SECTOR_WRITE, 0, block, kind->size), DOS_BAD_REQUEST, 0);
+    EXPECT(on_sector(DOS_SECTOR_PUT, 721, block, kind->size), DOS_BAD_REQUEST, 0);
+    EXPECT(on_sector(0x53, 4, block, kind->size), DOS_BAD_REQUEST, 0);
+    HOLDS(unchanged());
+    if (kind->header) {
+        image[0] ^= 1;
+        EXPECT(by_name(0, DOS_DELETE, 0, "D:A"), DOS_BAD_HEADER, 0);
+        EXPECT(recover(1), DOS_BAD_HEADER, 0);
+        EXPECT(on_sector(DOS_SECTOR_PUT, 4, block, kind->size), DOS_BAD_HEADER, 0);
+        EXPECT(dos_thin_put(image, length, notch, writer, 5, NULL, 0), DOS_BAD_HEADER, 0);
+        EXPECT(dos_header(image, length, notch), DOS_WRITE_PROTECTED, 0);
+        image[0] ^= 1;
+    }
+    notch = DOS_NOTCH_OPEN;
+    HOLDS(unchanged());
+}
+
+/* What would be refused behind 144: names, the volume table, the slot, the buffer's length. */
+static void behind_notch(void)
+{
+    static const char *const names[] = {"", "E:A", "D2:A", "D:1A", "D:", "D:NONE"};
+    uint16_t writer[DOS_CHANNEL_WORDS] = {DOS_KIND_WRITING, 99, 0, 0, 0};
+    uint8_t block[DOS_DOUBLE_SECTOR_BYTES + 1];
+    size_t i;
+
+    busy_disk();
+    memset(block, 0, sizeof block);
+    notch = DOS_NOTCH_CLOSED;
+    for (i = 0; i < sizeof names / sizeof names[0]; i++) {
+        EXPECT(by_name(0, DOS_OPEN, DOS_WRITE, names[i]), DOS_WRITE_PROTECTED, 0);
+        EXPECT(by_name(0, DOS_RENAME, 0, names[i]), DOS_WRITE_PROTECTED, 0);
+        EXPECT(by_name(0, DOS_DELETE, 0, names[i]), DOS_WRITE_PROTECTED, 0);
+        EXPECT(by_name(0, DOS_LOCK, 0, names[i]), DOS_WRITE_PROTECTED, 0);
+        EXPECT(by_name(0, DOS_UNLOCK, 0, names[i]), DOS_WRITE_PROTECTED, 0);
+        EXPECT(by_name(0, DOS_FORMAT, 0, names[i]), DOS_WRITE_PROTECTED, 0);
+    }
+    EXPECT(recover(0), DOS_WRITE_PROTECTED, 0);
+    EXPECT(recover(64), DOS_WRITE_PROTECTED, 0);
+    EXPECT(on_sector(DOS_SECTOR_PUT, 4, block, kind->size - 1), DOS_WRITE_PROTECTED, 0);
+    EXPECT(on_sector(DOS_SECTOR_WRITE, 4, block, kind->size + 1), DOS_WRITE_PROTECTED, 0);
+    EXPECT(dos_thin_put(image, kind->length, notch, writer, 5, block, 1), DOS_WRITE_PROTECTED, 0);
+    sector(360)[3] ^= 1;
+    EXPECT(by_buffer(2, DOS_PUT, block, 1), DOS_WRITE_PROTECTED, 0);
+    EXPECT(by_name(0, DOS_DELETE, 0, "D:A"), DOS_WRITE_PROTECTED, 0);
+    EXPECT(recover(1), DOS_WRITE_PROTECTED, 0);
+    notch = DOS_NOTCH_OPEN;
+    EXPECT(by_name(0, DOS_DELETE, 0, "D:A"), DOS_BAD_TABLE, 0);
 }
 
 int main(void)
@@ -463,6 +662,11 @@ int main(void)
         thin();
         nothing_lent();
         headers();
+        notch_refuses();
+        notch_reads();
+        notch_close();
+        before_notch();
+        behind_notch();
     }
     puts(failures ? "failed" : "ok");
     return failures != 0;

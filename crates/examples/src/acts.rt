@@ -2,6 +2,7 @@
 use super::order::behind;
 use super::order::decimal;
 use super::order::letter;
+use super::steps::NOTCH_OPEN;
 use super::steps::answer;
 use super::steps::call;
 use super::steps::fill_directory;
@@ -48,7 +49,7 @@ fn read(image: &mut [u8], letter: u8, first: usize, last: usize) {
     let mut space = [0u8; 257];
     let n = room(image.len(), letter, last);
     let sector = (first % 65536) as u16;
-    let result = dos_sector(image, 0x31, 1, 0x52, sector, &mut space[0..n]);
+    let result = dos_sector(image, NOTCH_OPEN, 0x31, 1, 0x52, sector, &mut space[0..n]);
     if letter == b'r' {
         answer(result);
     } else if last < 256 {
@@ -82,8 +83,8 @@ fn look(image: &mut [u8], letter: u8, first: usize, last: usize) {
     match letter {
         b'i' => show_byte(image, first),
         b'f' => number(fill_directory(image) as u64),
-        b'h' => status(dos_header(image)),
-        b'u' => answer(dos_recover(image, (first % 256) as u8)),
+        b'h' => status(dos_header(image, NOTCH_OPEN)),
+        b'u' => answer(dos_recover(image, NOTCH_OPEN, (first % 256) as u8)),
         _ => read(image, letter, first, last),
     }
 }

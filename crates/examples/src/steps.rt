@@ -8,6 +8,9 @@ ghost use lib.ListN.{length};
 // The most bytes that are put at once: all that a disk of double density has room for.
 const MOST: usize = 178871;
 
+// The examples are of disks whose notch is open.
+pub const NOTCH_OPEN: u8 = 0;
+
 // A number.
 pub fn number(n: u64) {
     io::print_decimal(1, n);
@@ -39,7 +42,16 @@ pub fn call(
     text: &[u8],
 ) -> u64 {
     let mut none = [0u8; 0];
-    dos_cio(image, words, 0, command, direction, text, &mut none)
+    dos_cio(
+        image,
+        words,
+        NOTCH_OPEN,
+        0,
+        command,
+        direction,
+        text,
+        &mut none,
+    )
 }
 
 // A get of n bytes on channel 0: status and count, and the buffer's first three bytes.
@@ -47,7 +59,7 @@ pub fn get(image: &mut [u8], words: &mut [u16; 40], n: usize)
     requires { ⌜ n ≤ 256 ⌝ }
 {
     let mut bytes = [b'-'; 256];
-    answer(dos_cio(image, words, 0, 7, 0, b"", &mut bytes[0..n]));
+    answer(dos_cio(image, words, NOTCH_OPEN, 0, 7, 0, b"", &mut bytes[0..n]));
     io::write_all(1, &[b' ', bytes[0], bytes[1], bytes[2]]);
 }
 
@@ -66,7 +78,7 @@ pub fn put(image: &mut [u8], words: &mut [u16; 40], n: usize) -> u64 {
     let mut bytes = letters();
     bytes[1] = b'Y';
     bytes[2] = b'Z';
-    dos_cio(image, words, 0, 11, 0, b"", &mut bytes[0..n])
+    dos_cio(image, words, NOTCH_OPEN, 0, 11, 0, b"", &mut bytes[0..n])
 }
 
 // A result whose status is success.

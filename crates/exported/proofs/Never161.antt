@@ -51,11 +51,11 @@ pub results-never161 : ResultsNever161
 unfolding cioLeaves getLeaves putLeaves
 results-never161 = record {
   cio = λ l ws c text b. by-check (λ (o : CioLeaves). Not161 (o .result)) _ _ _ (λ _ e. omega arith) λ _. results .calls l _ c text b _;
-  recover = λ l s. results .recoveries l s _;
-  sector = λ l device unit command k b. results .sectors l device unit command k b _;
+  recover = λ l protected s. results .recoveries l protected s _;
+  sector = λ l protected device unit command k b. results .sectors l protected device unit command k b _;
   show = shown-result;
   thinGet = λ l ws b. by-check (λ (o : GetLeaves). Not161 (o .result)) _ _ _ (λ _ e. omega arith) λ _. results .thinGets l _ b _;
-  thinPut = λ l ws b. by-check (λ (o : PutLeaves). Not161 (o .result)) _ _ _ (λ _ e. omega arith) λ _. results .thinPuts l _ b _;
+  thinPut = λ l protected ws b. by-check (λ (o : PutLeaves). Not161 (o .result)) _ _ _ (λ _ e. omega arith) λ _. results .thinPuts l protected _ b _;
   name = name-result;
-  header = λ l. results .headers l _;
+  header = λ l protected. results .headers l protected _;
 }

@@ -61,14 +61,14 @@ number-byte n m = ltb-true n 256 (passes-each (λ k. ltb k 256) numbers refl n m
 status-byte : (c : Call) (x : ImageTable) → outcomeOn c x .answer .status < 256
 unfolding outcomeOn
 status-byte (cioOf c text b) x = every-status _ number-byte .calls (x .image) (x .table) c text b
-status-byte (recoveryOf s) x = every-status _ number-byte .recoveries (x .image) s
+status-byte (recoveryOf protected s) x = every-status _ number-byte .recoveries (x .image) protected s
 
 -- one call
 module _ (x : ImageWords) (h : isTable (x .words) ≡ true) where
   call-table : (c : Call) → isTable (callWords c x .after .words) ≡ true
   unfolding callWords
   call-table (cioOf c text b) = rw (on-table (x .image) (x .words) c text b h) (words-table (x .words) _ h)
-  call-table (recoveryOf s) = h
+  call-table (recoveryOf protected s) = h
 
   call-said : (c : Call) → said (callWords c x .after) ≡ afterOn (outcomeOn c (said x))
   unfolding callWords outcomeOn
@@ -77,17 +77,17 @@ module _ (x : ImageWords) (h : isTable (x .words) ≡ true) where
       let o = cioCall (x .image) t c text b in
       rw (on-table (x .image) (x .words) c text b h)
       (ap (λ u. record { image = o .image; table = u }) (words-say (x .words) (o .answer .table) (table-length (x .words) h) (call-many (x .image) t c text b ∙ table-eight (x .words))))
-  call-said (recoveryOf s) = refl
+  call-said (recoveryOf protected s) = refl
 
   call-result : (c : Call) → let a = outcomeOn c (said x) .answer in callWords c x .result ≡ resultOf (a .status) (a .count)
   unfolding callWords outcomeOn
   call-result (cioOf c text b) = rw (on-table (x .image) (x .words) c text b h)
-  call-result (recoveryOf s) = refl
+  call-result (recoveryOf protected s) = refl
 
   call-buffer : (c : Call) → callWords c x .buffer ≡ outcomeOn c (said x) .buffer
   unfolding callWords outcomeOn
   call-buffer (cioOf c text b) = rw (on-table (x .image) (x .words) c text b h)
-  call-buffer (recoveryOf s) = refl
+  call-buffer (recoveryOf protected s) = refl
 
   -- what the caller sees of a call is its outcome on the image
   call-seen : (g : Geometry) (c : Call) → seen g c x ≡ images g .outcome c (said x)

@@ -35,7 +35,7 @@ pub record Leaves : Type 0 where
 unfoldable pub callWords : Call → ImageWords → Leaves
 callWords (cioOf c text b) x = let o = cioLeaves (x .image) (x .words) c text b in
     record { result = o .result; buffer = o .buffer; after = record { image = o .image; words = o .table } }
-callWords (recoveryOf s) x = let o = recoverCall (x .image) s in
+callWords (recoveryOf protected s) x = let o = recoverCall (x .image) protected s in
     record { result = resultOf (o .reply .status) (o .reply .count); buffer = []; after = record { image = o .image; words = x .words } }
 
 module _ (g : Geometry) where

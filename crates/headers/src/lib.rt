@@ -18,19 +18,23 @@ fn write_sixteen(image: &mut [u8], header: [u8; 16])
     copy(image, 0, &header);
 }
 
-// The header written, on any image: its length alone says which, and 203 is answered for a length that is no ATR's.
-pub fn write_header(image: &mut [u8]) -> Reply
-    ensures { λ r. ⌜ (let o = headerCall (now (image .entry)) in
+// The header written, on any image: its length alone says which, and 203 is answered for a length that is no ATR's, then 144.
+pub fn write_header(image: &mut [u8], protected: bool) -> Reply
+    ensures { λ r. ⌜ (let o = headerCall (now (image .entry)) protected in
         (r ≡ o .reply) × (now (image .exit) ≡ o .image)) ⌝ }
 {
-    let n = image.len();
-    if n == Medium::SINGLE_ATR_BYTES {
+    let single = image.len() == Medium::SINGLE_ATR_BYTES;
+    let double = image.len() == Medium::DOUBLE_ATR_BYTES;
+    if !(single | double) {
+        return reply(status::BAD_IMAGE, 0);
+    }
+    if protected {
+        return reply(status::WRITE_PROTECTED, 0);
+    }
+    if single {
         write_sixteen(image, Medium::SINGLE_HEADER);
         return reply(status::SUCCESS, 0);
     }
-    if n == Medium::DOUBLE_ATR_BYTES {
-        write_sixteen(image, Medium::DOUBLE_HEADER);
-        return reply(status::SUCCESS, 0);
-    }
-    reply(status::BAD_IMAGE, 0)
+    write_sixteen(image, Medium::DOUBLE_HEADER);
+    reply(status::SUCCESS, 0)
 }

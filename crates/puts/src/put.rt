@@ -10,11 +10,14 @@ use layout::status;
 use rules::Advanced;
 use rules::answers::refused;
 use volume::table::table_good;
+ghost use mathlib.Core.Bool.{true, false};
+ghost use mathlib.Core.List.{List};
 ghost use mathlib.Core.Path.{_≡_};
-ghost use Rattle.layout.specs.Image.{Whole, geometryOf, view};
+ghost use Prim.Native.Nat.{ℕ};
+ghost use Rattle.layout.specs.Image.{Disk, Geometry, Whole, geometryOf, view};
 ghost use Rattle.layout.specs.declared.State.the-variants.{Writing};
 ghost use Rattle.rules.specs.Get.{advanced};
-ghost use Rattle.rules.specs.Put.{writable, putOn};
+ghost use Rattle.rules.specs.Put.{putKeeps, writable, putOn};
 
 // The slot is $43, with a count of at most 707, and its last sector fits and has next sector 0.
 fn writable(m: Medium, image: &[u8], slot: u16, last: u16) -> bool
@@ -41,11 +44,11 @@ fn writing(status: u8, count: usize, slot: u16, last: u16) -> Advanced
     }
 }
 
-// Put on a writing channel.
+// Put on a writing channel, with the notch open.
 fn put_writing(m: Medium, image: &mut [u8], slot: u16, last: u16, buffer: &[u8]) -> Advanced
     requires { ⌜ Whole m (now image) ⌝ }
-    ensures { λ r. ⌜ (r ≡ putOn (geometryOf m) (view (geometryOf m) (now (image .entry))) (Writing slot last) (now (buffer .entry)) .answer)
-        × (view (geometryOf m) (now (image .exit)) ≡ putOn (geometryOf m) (view (geometryOf m) (now (image .entry))) (Writing slot last) (now (buffer .entry)) .disk) ⌝ }
+    ensures { λ r. ⌜ (let o = putOn (geometryOf m) (view (geometryOf m) (now (image .entry))) false (Writing slot last) (now (buffer .entry)) in
+        (r ≡ o .answer) × (view (geometryOf m) (now (image .exit)) ≡ o .disk)) ⌝ }
 {
     if buffer.len() == 0 {
         return writing(status::SUCCESS, 0, slot, last);
@@ -60,12 +63,31 @@ fn put_writing(m: Medium, image: &mut [u8], slot: u16, last: u16, buffer: &[u8])
     writing(a.status, a.count, slot, a.last)
 }
 
-// Put on one channel adds the lent bytes at the end.
-pub fn put_on(m: Medium, image: &mut [u8], st: State, buffer: &[u8]) -> Advanced
-    requires { ⌜ Whole m (now image) ⌝ }
-    ensures { λ r. ⌜ (r ≡ putOn (geometryOf m) (view (geometryOf m) (now (image .entry))) st (now (buffer .entry)) .answer)
-        × (view (geometryOf m) (now (image .exit)) ≡ putOn (geometryOf m) (view (geometryOf m) (now (image .entry))) st (now (buffer .entry)) .disk) ⌝ }
+// What a put answers with the notch closed: it changes nothing.
+pub fn protected_status(st: State) -> u8
+    ensures { λ r. ⌜ ((g : Geometry) (d : Disk) (b : List ℕ) → putOn g d true st b ≡ putKeeps r d st) ⌝ }
 {
+    match st {
+        State::Closed => status::CHANNEL_CLOSED,
+        State::Reading {
+            slot: _,
+            sector: _,
+            offset: _,
+            left: _,
+        } => status::READ_ONLY,
+        State::Writing { slot: _, last: _ } => status::WRITE_PROTECTED,
+    }
+}
+
+// Put on one channel adds the lent bytes at the end.
+pub fn put_on(m: Medium, image: &mut [u8], protected: bool, st: State, buffer: &[u8]) -> Advanced
+    requires { ⌜ Whole m (now image) ⌝ }
+    ensures { λ r. ⌜ (let o = putOn (geometryOf m) (view (geometryOf m) (now (image .entry))) protected st (now (buffer .entry)) in
+        (r ≡ o .answer) × (view (geometryOf m) (now (image .exit)) ≡ o .disk)) ⌝ }
+{
+    if protected {
+        return refused(protected_status(st), st);
+    }
     match st {
         State::Closed => refused(status::CHANNEL_CLOSED, st),
         State::Reading {

@@ -1,5 +1,5 @@
 -- What a call can end in: a refusal, or one of the acts of the commands and of recovery, with what the checks before it have shown.
-use mathlib.Core.Bool.{Bool, true, false, not, _||_}
+use mathlib.Core.Bool.{Bool, true, false, not, _&&_, _||_}
 use mathlib.Core.Logic.{_≢_}
 use mathlib.Core.List.{List, []}
 use mathlib.Core.Path.{_≡_}
@@ -25,18 +25,18 @@ use Rattle.layout.specs.Directory.{flag, count, name, writeFlag, writeName, loc
 use Rattle.layout.specs.File.{clean, cleanFree, chain, delete, restore}
 use Rattle.layout.specs.Channels.{stateOf, withState, openAt, anyOpen, held, newSlot}
 use Rattle.layout.specs.Names.{nameByte, readName, oldName, newName, legal}
-use Rattle.layout.specs.Status.{success, channelClosed, writeOnly, badTable, badChain}
+use Rattle.layout.specs.Status.{success, channelClosed, writeOnly, writeProtected, badTable, badChain}
 use Rattle.rules.specs.Get.{Reads, place, readable, getFrom, gets, GetOutcome, getKeeps}
 use Rattle.rules.specs.Put.{Adds, writable, putFrom, puts, PutOutcome, putKeeps}
-use Rattle.rules.specs.Commands.{Effect, effect, refused, done, rewritten, made}
+use Rattle.rules.specs.Commands.{Effect, effect, refused, couldChange, done, rewritten, made}
 use Rattle.rules.specs.Cio.{Outcome, outcome, commandOf, Asks}
 use Rattle.rules.specs.Recovery.{recoverable, recovered}
 use Rattle.rules.specs.Demand1.{putAnswers, answers, recoveryAnswers}
-use Rattle.rules.specs.Lists.{Call, cioOf, recoveryOf, recovering}
+use Rattle.rules.specs.Lists.{Call, cioOf, recoveryOf, protectedIn, recovering}
 
--- a refusal's number that tells nothing of the table or of a chain: neither 1 nor 163 nor 164
+-- a refusal's number that tells nothing of the notch, the table or a chain: neither 1 nor 144, 163 or 164
 abbrev pub plainly : ℕ → Bool
-plainly n = not (eqb n 1 || eqb n 163 || eqb n 164)
+plainly n = not (eqb n 1 || eqb n 144 || eqb n 163 || eqb n 164)
 
 -- what is asked of a call: its command, or a recovery
 pub data Kind : Type 0 where
@@ -45,17 +45,17 @@ pub data Kind : Type 0 where
 
 abbrev pub kindOf : Call → Kind
 kindOf (cioOf c text b) = asks (commandOf (c .command))
-kindOf (recoveryOf s) = recovers
+kindOf (recoveryOf protected s) = recovers
 
 -- the buffer that a call brings
 abbrev pub bufferOf : Call → List ℕ
 bufferOf (cioOf c text b) = b
-bufferOf (recoveryOf s) = []
+bufferOf (recoveryOf protected s) = []
 
 -- the numbers that it can answer
 abbrev pub answersTo : Call → List ℕ
 answersTo (cioOf c text b) = answers c
-answersTo (recoveryOf s) = recoveryAnswers
+answersTo (recoveryOf protected s) = recoveryAnswers
 
 -- this command, on a channel below 8
 pub record On (c : Block) (k : Command) : Type 0 where
@@ -80,17 +80,18 @@ module _ (g : Geometry) (d : Disk) where
     get-none : (s k o l : ℕ) → length b ≡ 0 → GetEnds b (Reading s k o l) (getKeeps success (Reading s k o l) b)
     get-some : (s k o l : ℕ) → length b ≢ 0 → readable g d s k o ≡ true → GetEnds b (Reading s k o l) (gets s (getFrom g d s (length b) 0 (place k o l) b))
 
-  -- why a put on one channel is refused: 163 and 164 tell which test failed
-  pub data PutWhy : State → ℕ → Type 0 where
-    put-plain : {st : State} (n : ℕ) → plainly n ≡ true → PutWhy st n
-    put-no-table : {st : State} → good (d 360) ≡ false → PutWhy st badTable
-    put-broken : (s p : ℕ) → writable g d s p ≡ false → PutWhy (Writing s p) badChain
+  -- why a put on one channel is refused: 144, 163 and 164 tell which test failed
+  pub data PutWhy (protected : Bool) : State → ℕ → Type 0 where
+    put-plain : {st : State} (n : ℕ) → plainly n ≡ true → PutWhy protected st n
+    put-barred : {st : State} → protected ≡ true → PutWhy protected st writeProtected
+    put-no-table : {st : State} → good (d 360) ≡ false → PutWhy protected st badTable
+    put-broken : (s p : ℕ) → writable g d s p ≡ false → PutWhy protected (Writing s p) badChain
 
-  -- a put on one channel: a refusal; no bytes to add; bytes added
-  pub data PutEnds (b : List ℕ) : State → PutOutcome → Type 0 where
-    put-refuses : (st : State) (n : ℕ) → PutWhy st n → member n putAnswers ≡ true → PutEnds b st (putKeeps n d st)
-    put-none : (s p : ℕ) → length b ≡ 0 → PutEnds b (Writing s p) (putKeeps success d (Writing s p))
-    put-some : (s p : ℕ) → length b ≢ 0 → good (d 360) ≡ true → writable g d s p ≡ true → PutEnds b (Writing s p) (puts s (putFrom g b d s p 0))
+  -- a put on one channel: a refusal; no bytes to add; bytes added, with the notch open
+  pub data PutEnds (protected : Bool) (b : List ℕ) : State → PutOutcome → Type 0 where
+    put-refuses : (st : State) (n : ℕ) → PutWhy protected st n → member n putAnswers ≡ true → PutEnds protected b st (putKeeps n d st)
+    put-none : (s p : ℕ) → length b ≡ 0 → PutEnds protected b (Writing s p) (putKeeps success d (Writing s p))
+    put-some : (s p : ℕ) → protected ≡ false → length b ≢ 0 → good (d 360) ≡ true → writable g d s p ≡ true → PutEnds protected b (Writing s p) (puts s (putFrom g b d s p 0))
 
 -- the outcome of bytes read and the effect of bytes added on channel i, for slot s
 abbrev pub gotten : Disk → Table → ℕ → ℕ → Reads → Outcome
@@ -101,18 +102,20 @@ abbrev pub added : Table → ℕ → ℕ → Adds → Effect
 added t i s a = record { status = a .added .status; count = a .added .count; disk = a .disk; table = withState t i (Writing s (a .added .last)); given = a .given; took = Nothing }
 
 module _ (g : Geometry) (d : Disk) (t : Table) where
-  -- why a call is refused, by what is asked of it: 163 and 164 tell which test failed
-  pub data Why : Kind → ℕ → Type 0 where
-    plain : {k : Kind} (n : ℕ) → plainly n ≡ true → Why k n
-    no-table : {k : Kind} → good (d 360) ≡ false → Why k badTable
-    no-chain : {f : FileCommand} (w : ℕ → ℕ) (s : ℕ) → find d w ≡ At s → clean g d s ≡ false → Why (asks (Files f)) badChain
-    no-read : (i s k o l : ℕ) → i < 8 → stateOf t i ≡ Reading s k o l → readable g d s k o ≡ false → Why (asks (Moves Get)) badChain
-    no-write : (i s p : ℕ) → i < 8 → stateOf t i ≡ Writing s p → writable g d s p ≡ false → Why (asks (Moves Put)) badChain
+  -- why a call is refused, by what is asked of it: 144, 163 and 164 tell which test failed
+  pub data Why (protected : Bool) : Kind → ℕ → Type 0 where
+    plain : {k : Kind} (n : ℕ) → plainly n ≡ true → Why protected k n
+    barred : {k : Kind} → protected ≡ true → Why protected k writeProtected
+    no-table : {k : Kind} → good (d 360) ≡ false → Why protected k badTable
+    no-chain : {f : FileCommand} (w : ℕ → ℕ) (s : ℕ) → find d w ≡ At s → clean g d s ≡ false → Why protected (asks (Files f)) badChain
+    no-read : (i s k o l : ℕ) → i < 8 → stateOf t i ≡ Reading s k o l → readable g d s k o ≡ false → Why protected (asks (Moves Get)) badChain
+    no-write : (i s p : ℕ) → i < 8 → stateOf t i ≡ Writing s p → writable g d s p ≡ false → Why protected (asks (Moves Put)) badChain
 
-  -- what the checks before an act have shown: this command on a closed channel
-  pub record Ready (c : Block) (k : Command) : Type 0 where
-    pub on : On c k
+  -- what the checks before an act have shown: this command on a closed channel, and where it could change the image the notch is open
+  pub record Ready (c : Block) (k : FileCommand) : Type 0 where
+    pub on : On c (Files k)
     pub shut : openAt t (c .channel) ≡ false
+    pub permitted : (couldChange (c .direction) k && c .protected) ≡ false
 
   -- the name read and the slot found, on a good table
   pub record Aimed (n : Name) (s : ℕ) : Type 0 where
@@ -121,14 +124,14 @@ module _ (g : Geometry) (d : Disk) (t : Table) where
     pub at : find d (bytes told) ≡ At s
 
   pub record Opens (c : Block) (text : List ℕ) (s : ℕ) : Type 0 where
-    pub ready : Ready c (Files Open)
+    pub ready : Ready c Open
     pub direction : c .direction ≡ 4
     pub told : Told (readName text)
     pub at : find d (bytes told) ≡ At s
     pub quiet : outputFlag (flag d s) ≡ false
 
   pub record Rewrites (c : Block) (text : List ℕ) (s : ℕ) : Type 0 where
-    pub ready : Ready c (Files Open)
+    pub ready : Ready c Open
     pub direction : c .direction ≡ 8
     pub aim : Aimed (readName text) s
     pub unlocked : locked (flag d s) ≡ false
@@ -136,7 +139,7 @@ module _ (g : Geometry) (d : Disk) (t : Table) where
     pub clear : clean g d s ≡ true
 
   pub record Makes (c : Block) (text : List ℕ) (s : ℕ) : Type 0 where
-    pub ready : Ready c (Files Open)
+    pub ready : Ready c Open
     pub direction : c .direction ≡ 8
     pub told : Told (readName text)
     pub table : good (d 360) ≡ true
@@ -153,12 +156,13 @@ module _ (g : Geometry) (d : Disk) (t : Table) where
   pub record Puts (c : Block) (b : List ℕ) (s p : ℕ) : Type 0 where
     pub on : On c (Moves Put)
     pub state : stateOf t (c .channel) ≡ Writing s p
+    pub permitted : c .protected ≡ false
     pub waiting : length b ≢ 0
     pub table : good (d 360) ≡ true
     pub passes : writable g d s p ≡ true
 
   pub record Renames (c : Block) (text : List ℕ) (s : ℕ) : Type 0 where
-    pub ready : Ready c (Files Rename)
+    pub ready : Ready c Rename
     pub aim : Aimed (oldName text) s
     pub told : Told (newName text)
     pub unlocked : locked (flag d s) ≡ false
@@ -166,14 +170,14 @@ module _ (g : Geometry) (d : Disk) (t : Table) where
     pub alone : another d (bytes told) s ≡ false
 
   pub record Deletes (c : Block) (text : List ℕ) (s : ℕ) : Type 0 where
-    pub ready : Ready c (Files Delete)
+    pub ready : Ready c Delete
     pub aim : Aimed (readName text) s
     pub unlocked : locked (flag d s) ≡ false
     pub unheld : held d t s ≡ false
     pub clear : clean g d s ≡ true
 
   -- lock and unlock
-  pub record Flags (c : Block) (k : Command) (text : List ℕ) (s : ℕ) : Type 0 where
+  pub record Flags (c : Block) (k : FileCommand) (text : List ℕ) (s : ℕ) : Type 0 where
     pub ready : Ready c k
     pub aim : Aimed (readName text) s
     pub unheld : held d t s ≡ false
@@ -182,12 +186,14 @@ module _ (g : Geometry) (d : Disk) (t : Table) where
   pub record Closes (c : Block) (s p : ℕ) : Type 0 where
     pub on : On c Close
     pub state : stateOf t (c .channel) ≡ Writing s p
+    pub permitted : c .protected ≡ false
 
   pub record Formats (c : Block) : Type 0 where
-    pub ready : Ready c (Files Format)
+    pub ready : Ready c Format
     pub none : anyOpen t ≡ false
 
-  pub record Restores (s : ℕ) : Type 0 where
+  pub record Restores (protected : Bool) (s : ℕ) : Type 0 where
+    pub permitted : protected ≡ false
     pub passes : recoverable d s ≡ true
     pub table : good (d 360) ≡ true
     pub legals : legal (name d s) ≡ true
@@ -197,7 +203,7 @@ module _ (g : Geometry) (d : Disk) (t : Table) where
   -- what a call ends in, by what is asked of it
   pub data Ends : Kind → Call → Outcome → Type 0 where
     -- a refusal: all is as it was
-    refuses : {k : Kind} {c : Call} (n : ℕ) → Why k n → member n (answersTo c) ≡ true → Ends k c (outcome (refused n d t) (bufferOf c))
+    refuses : {k : Kind} {c : Call} (n : ℕ) → Why (protectedIn c) k n → member n (answersTo c) ≡ true → Ends k c (outcome (refused n d t) (bufferOf c))
     -- get, of some bytes and of none
     reads : {c : Block} {text b : List ℕ} (s k o l : ℕ) → Gets c b s k o l → Ends (asks (Moves Get)) (cioOf c text b) (gotten d t (c .channel) s (getFrom g d s (length b) 0 (place k o l) b))
     reads-none : {c : Block} {text b : List ℕ} → On c (Moves Get) → length b ≡ 0 → Ends (asks (Moves Get)) (cioOf c text b) (outcome (done g d t d t) b)
@@ -213,11 +219,11 @@ module _ (g : Geometry) (d : Disk) (t : Table) where
     rewrites : {c : Block} {text b : List ℕ} (s : ℕ) → Rewrites c text s → Ends (asks (Files Open)) (cioOf c text b) (outcome (rewritten g d t (c .channel) s) b)
     makes : {c : Block} {text b : List ℕ} (s : ℕ) (h : Makes c text s) → Ends (asks (Files Open)) (cioOf c text b) (outcome (made g d t (c .channel) (bytes (h .told)) s) b)
     -- status, rename, delete, lock, unlock, format
-    tells : {c : Block} {text b : List ℕ} → Ready c (Files Status) → Ends (asks (Files Status)) (cioOf c text b) (outcome (done g d t d t) b)
+    tells : {c : Block} {text b : List ℕ} → Ready c Status → Ends (asks (Files Status)) (cioOf c text b) (outcome (done g d t d t) b)
     renames : {c : Block} {text b : List ℕ} (s : ℕ) (h : Renames c text s) → Ends (asks (Files Rename)) (cioOf c text b) (outcome (done g d t (writeName d s (bytes (h .told))) t) b)
     deletes : {c : Block} {text b : List ℕ} (s : ℕ) → Deletes c text s → Ends (asks (Files Delete)) (cioOf c text b) (outcome (done g d t (delete g d s) t) b)
-    locks : {c : Block} {text b : List ℕ} (s : ℕ) → Flags c (Files Lock) text s → Ends (asks (Files Lock)) (cioOf c text b) (outcome (done g d t (writeFlag d s (bitOn (flag d s) 5)) t) b)
-    unlocks : {c : Block} {text b : List ℕ} (s : ℕ) → Flags c (Files Unlock) text s → Ends (asks (Files Unlock)) (cioOf c text b) (outcome (done g d t (writeFlag d s (bitOff (flag d s) 5)) t) b)
+    locks : {c : Block} {text b : List ℕ} (s : ℕ) → Flags c Lock text s → Ends (asks (Files Lock)) (cioOf c text b) (outcome (done g d t (writeFlag d s (bitOn (flag d s) 5)) t) b)
+    unlocks : {c : Block} {text b : List ℕ} (s : ℕ) → Flags c Unlock text s → Ends (asks (Files Unlock)) (cioOf c text b) (outcome (done g d t (writeFlag d s (bitOff (flag d s) 5)) t) b)
     formats : {c : Block} {text b : List ℕ} → Formats c → Ends (asks (Files Format)) (cioOf c text b) (outcome (done g d t (formatted d) t) b)
     -- recovery
-    restores : (s : ℕ) → Restores s → Ends recovers (recoveryOf s) (outcome (recovering (recovered success (length (chain g d s)) (restore g d s)) t) [])
+    restores : {protected : Bool} (s : ℕ) → Restores protected s → Ends recovers (recoveryOf protected s) (outcome (recovering (recovered success (length (chain g d s)) (restore g d s)) t) [])

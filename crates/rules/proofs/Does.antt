@@ -6,19 +6,20 @@ use Prim.Native.Nat.{ℕ}
 use lib.Dec.{leb}
 use borrow.Author.Tests.{lt-leb}
 use Rattle.layout.specs.declared.State.{State}
-use Rattle.layout.specs.declared.State.the-variants.{Closed, Reading}
+use Rattle.layout.specs.declared.State.the-variants.{Closed, Reading, Writing}
 use Rattle.layout.specs.declared.Table.{Table}
 use Rattle.rules.specs.declared.Block.{Block}
 use Rattle.rules.specs.declared.Transfer.the-variants.{Get, Put}
 use Rattle.rules.specs.declared.Command.{Command}
-use Rattle.rules.specs.declared.Command.the-variants.{Moves}
+use Rattle.rules.specs.declared.Command.the-variants.{Moves, Close}
 use Rattle.layout.specs.Image.{Disk, Geometry}
 use Rattle.layout.specs.Directory.{count, writeFlag, is43}
 use Rattle.layout.specs.Channels.{stateOf, withState}
-use Rattle.layout.proofs.Check.{check-no}
+use Rattle.layout.specs.Status.{writeProtected}
+use Rattle.layout.proofs.Check.{check-yes, check-no}
 use Rattle.rules.specs.Get.{getOn}
 use Rattle.rules.specs.Put.{putOn}
-use Rattle.rules.specs.Commands.{Effect, done, putAt, openRead, closeState, closeCall}
+use Rattle.rules.specs.Commands.{Effect, refused, done, putAt, openRead, closeState, closeCall}
 use Rattle.rules.specs.Cio.{Outcome, getAt, transfer, command, cio}
 use Rattle.rules.proofs.Acts.{On, Opens, Closes}
 use Rattle.rules.proofs.Aimed.{sought-slot, aimed-slot}
@@ -38,14 +39,24 @@ module _ (g : Geometry) (d : Disk) (t : Table) (c : Block) (text b : List ℕ) w
   unfolding command transfer getAt
   does-get o e = does o ∙ ap (λ st. getLeaves d t (c .channel) (getOn g d st b)) e
 
-  pub does-put : On c (Moves Put) → {st : State} → stateOf t (c .channel) ≡ st → cio g d t c text b .effect ≡ putLeaves t (c .channel) (putOn g d st b)
+  pub does-put : On c (Moves Put) → {st : State} → stateOf t (c .channel) ≡ st → cio g d t c text b .effect ≡ putLeaves t (c .channel) (putOn g d (c .protected) st b)
   unfolding command transfer putAt
-  does-put o e = does-effect o ∙ ap (λ st. putLeaves t (c .channel) (putOn g d st b)) e
+  does-put o e = does-effect o ∙ ap (λ st. putLeaves t (c .channel) (putOn g d (c .protected) st b)) e
 
-  -- a close of a channel that writes a slot with $43
+  -- a close of a channel that writes
+  does-close-state : (s p : ℕ) → On c Close → stateOf t (c .channel) ≡ Writing s p → cio g d t c text b .effect ≡ closeState g d t (c .channel) (c .protected) (Writing s p)
+  unfolding command closeCall
+  does-close-state s p o e = does-effect o ∙ ap (closeState g d t (c .channel) (c .protected)) e
+
+  -- with the notch closed
+  pub does-stay : (s p : ℕ) → On c Close → stateOf t (c .channel) ≡ Writing s p → c .protected ≡ true → cio g d t c text b .effect ≡ refused writeProtected d t
+  unfolding closeState
+  does-stay s p o e q = does-close-state s p o e ∙ check-yes {A = Effect} _ _ _ q
+
+  -- with it open, of a slot with $43
   pub does-close : (s p : ℕ) → Closes g d t c s p → is43 d s ≡ true → cio g d t c text b .effect ≡ done g d t (writeFlag d s 0x42) (withState t (c .channel) Closed)
-  unfolding command closeCall closeState
-  does-close s p h o = does-effect (h .on) ∙ ap (closeState g d t (c .channel)) (h .state) ∙ check-no {A = Effect} _ _ _ (rw o)
+  unfolding closeState
+  does-close s p h o = does-close-state s p (h .on) (h .state) ∙ check-no {A = Effect} _ _ _ (h .permitted) ∙ check-no {A = Effect} _ _ _ (rw o)
 
   -- an open for input
   pub does-open : (s : ℕ) → Opens g d t c text s → cio g d t c text b .effect ≡ done g d t d (withState t (c .channel) (Reading s 0 0 (count d s)))

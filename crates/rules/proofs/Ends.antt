@@ -31,24 +31,25 @@ use Rattle.layout.specs.Directory.{flag, writeFlag, locked, found, find, is43}
 use Rattle.layout.specs.File.{clean}
 use Rattle.layout.specs.Channels.{stateOf, withState, held}
 use Rattle.layout.specs.Names.{wellFormed, nameAt, readAs, body, ending, comma, wholeEnd, named, readName, oldName, newName, readDevice}
-use Rattle.layout.specs.Status.{success, badChannel, badCommand, channelOpen, writeOnly, channelClosed, notServed, badDevice, badUnit, badName, badTable, notFound, fileLocked, fileHeld, badChain}
+use Rattle.layout.specs.Status.{success, badChannel, badCommand, channelOpen, writeOnly, channelClosed, writeProtected, notServed, badDevice, badUnit, badName, badTable, notFound, fileLocked, fileHeld, badChain}
 use Rattle.layout.proofs.Check.{check-yes, check-no, by-check, by-name, by-found}
 use Rattle.layout.proofs.Channels.{with-id}
 use Rattle.layout.proofs.Logic.{and-left, and-right}
 use Rattle.layout.proofs.Members.{member-head}
 use Rattle.rules.specs.Get.{readable, gets, GetOutcome, getOn}
 use Rattle.rules.specs.Put.{writable, putFrom, puts, PutOutcome, putKeeps, putOn}
-use Rattle.rules.specs.Commands.{Effect, refused, done, putAt, passing, sought, target, mayChange, mayFree, both, aimed, openRead, openFound, openNew, openTarget, openWrite, openCall, closeState, closeCall, statusCall, renameAt, renameCall, deleteAt, deleteCall, flagAt, lockCall, unlockCall, formatCall, fileCommand, onClosed}
+use Rattle.rules.specs.Commands.{Effect, refused, couldChange, done, putAt, passing, sought, target, mayChange, mayFree, both, aimed, openRead, openFound, openNew, openTarget, openWrite, openCall, closeState, closeCall, statusCall, renameAt, renameCall, deleteAt, deleteCall, flagAt, lockCall, unlockCall, formatCall, fileCommand, onClosed}
 use Rattle.rules.specs.Cio.{Outcome, outcome, getAt, commandOf, Asks, transfer, command, cio}
 use Rattle.rules.specs.Recovery.{Recovered, recovered, recover}
 use Rattle.rules.specs.Demand1.{readAnswers, writeAnswers, openAnswers, statusAnswers, lockAnswers, formatAnswers, commandAnswers, answers, recoveryAnswers}
 use Rattle.rules.specs.Lists.{Call, cioOf, recoveryOf, System, recovering, outcomeOf}
 use Rattle.rules.proofs.Told.{by-passing, may-change, may-free}
-use Rattle.rules.proofs.Acts.{plainly, Kind, asks, recovers, kindOf, On, Told, bytes, GetEnds, get-closed, get-writing, get-broken, get-none, get-some, PutWhy, put-plain, put-no-table, put-broken, PutEnds, put-refuses, put-none, put-some, Why, plain, no-table, no-chain, no-read, no-write, Ready, Aimed, Flags, Closes, Ends, refuses, reads, reads-none, writes, writes-none, frees, closes, drops, opens, rewrites, makes, tells, renames, deletes, locks, unlocks, formats, restores}
+use Rattle.rules.proofs.Acts.{plainly, Kind, asks, recovers, kindOf, On, Told, bytes, GetEnds, get-closed, get-writing, get-broken, get-none, get-some, PutWhy, put-plain, put-barred, put-no-table, put-broken, PutEnds, put-refuses, put-none, put-some, Why, plain, barred, no-table, no-chain, no-read, no-write, Ready, Aimed, Flags, Closes, Ends, refuses, reads, reads-none, writes, writes-none, frees, closes, drops, opens, rewrites, makes, tells, renames, deletes, locks, unlocks, formats, restores}
 
 -- a refusal is not 1
-pub why-not-one : {g : Geometry} {d : Disk} {t : Table} {k : Kind} {n : ℕ} → Why g d t k n → n ≢ success
+pub why-not-one : {g : Geometry} {d : Disk} {t : Table} {protected : Bool} {k : Kind} {n : ℕ} → Why g d t protected k n → n ≢ success
 why-not-one (plain n p) e = true≢false (sym p ∙ ap plainly e)
+why-not-one (barred q) e = omega arith
 why-not-one (no-table h) e = omega arith
 why-not-one (no-chain w s f h) e = omega arith
 why-not-one (no-read i s k o l z q h) e = omega arith
@@ -102,29 +103,32 @@ module _ (g : Geometry) (d : Disk) where
       by-check (GetEnds g d b (Reading s k o l)) _ _ _ (λ r. get-broken s k o l (not-true (readable g d s k o) r)) λ r.
       get-some s k o l (eqb-false (length b) 0 n) (not-false (readable g d s k o) r)
 
-  pub put-ends : (st : State) (b : List ℕ) → PutEnds g d b st (putOn g d st b)
+  pub put-ends : (protected : Bool) (st : State) (b : List ℕ) → PutEnds g d protected b st (putOn g d protected st b)
   unfolding putOn member
-  put-ends Closed b = put-refuses Closed _ (put-plain _ refl) refl
-  put-ends (Reading s k o l) b = put-refuses (Reading s k o l) _ (put-plain _ refl) refl
-  put-ends (Writing s p) b =
-      by-check (PutEnds g d b (Writing s p)) _ _ _ (λ n. put-none s p (eqb-true (length b) 0 n)) λ n.
-      by-check (PutEnds g d b (Writing s p)) _ _ _ (λ v. put-refuses _ _ (put-no-table (not-true (good (d 360)) v)) refl) λ v.
-      by-check (PutEnds g d b (Writing s p)) _ _ _ (λ w. put-refuses _ _ (put-broken s p (not-true (writable g d s p) w)) refl) λ w.
-      put-some s p (eqb-false (length b) 0 n) (not-false (good (d 360)) v) (not-false (writable g d s p) w)
+  put-ends protected Closed b = put-refuses Closed _ (put-plain _ refl) refl
+  put-ends protected (Reading s k o l) b = put-refuses (Reading s k o l) _ (put-plain _ refl) refl
+  put-ends protected (Writing s p) b =
+      by-check (PutEnds g d protected b (Writing s p)) _ _ _ (λ u. put-refuses _ _ (put-barred u) refl) λ u.
+      by-check (PutEnds g d protected b (Writing s p)) _ _ _ (λ n. put-none s p (eqb-true (length b) 0 n)) λ n.
+      by-check (PutEnds g d protected b (Writing s p)) _ _ _ (λ v. put-refuses _ _ (put-no-table (not-true (good (d 360)) v)) refl) λ v.
+      by-check (PutEnds g d protected b (Writing s p)) _ _ _ (λ w. put-refuses _ _ (put-broken s p (not-true (writable g d s p) w)) refl) λ w.
+      put-some s p u (eqb-false (length b) 0 n) (not-false (good (d 360)) v) (not-false (writable g d s p) w)
 
-  -- a put on a writing channel that passes the checks adds the bytes, if there are any
-  pub put-passes : (P : PutOutcome → Type 0) (s p : ℕ) (b : List ℕ) → good (d 360) ≡ true → writable g d s p ≡ true
-      → (length b ≡ 0 → P (putKeeps success d (Writing s p))) → (length b ≢ 0 → P (puts s (putFrom g b d s p 0))) → P (putOn g d (Writing s p) b)
+  -- a put on a writing channel that passes the checks behind 144 adds the bytes, if there are any
+  pub put-passes : (P : PutOutcome → Type 0) (protected : Bool) (s p : ℕ) (b : List ℕ) → good (d 360) ≡ true → writable g d s p ≡ true
+      → (protected ≡ true → P (putKeeps writeProtected d (Writing s p))) → (protected ≡ false → length b ≡ 0 → P (putKeeps success d (Writing s p))) → (protected ≡ false → length b ≢ 0 → P (puts s (putFrom g b d s p 0)))
+      → P (putOn g d protected (Writing s p) b)
   unfolding putOn
-  put-passes P s p b v w none some =
-      by-check P _ _ _ (λ n. none (eqb-true (length b) 0 n)) λ n.
+  put-passes P protected s p b v w closed none some =
+      by-check P _ _ _ closed λ u.
+      by-check P _ _ _ (λ n. none u (eqb-true (length b) 0 n)) λ n.
       by-check P _ _ _ (λ q. absurd (true≢false (sym v ∙ not-true (good (d 360)) q))) λ _.
       by-check P _ _ _ (λ q. absurd (true≢false (sym w ∙ not-true (writable g d s p) q))) λ _.
-      some (eqb-false (length b) 0 n)
+      some u (eqb-false (length b) 0 n)
 
 -- a table of checks whose refusals have their numbers among l: what P says holds of each of them
-record Rows {A : Type 0} (g : Geometry) (d : Disk) (t : Table) (k : Kind) (P : A → Type 0) (refusal : ℕ → A) (l : List ℕ) : Type 0 where
-  refusing : (n : ℕ) → Why g d t k n → member n l ≡ true → P (refusal n)
+record Rows {A : Type 0} (g : Geometry) (d : Disk) (t : Table) (protected : Bool) (k : Kind) (P : A → Type 0) (refusal : ℕ → A) (l : List ℕ) : Type 0 where
+  refusing : (n : ℕ) → Why g d t protected k n → member n l ≡ true → P (refusal n)
 
 -- a number that tells nothing of the table or of a chain, among l
 abbrev Plain : List ℕ → ℕ → Type 0
@@ -135,7 +139,7 @@ abbrev Names : List ℕ → Type 0
 Names l = (member badDevice l && (member badUnit l && member badName l)) ≡ true
 
 -- the kinds of rows
-module _ {A : Type 0} {g : Geometry} {d : Disk} {t : Table} {k : Kind} {P : A → Type 0} {refusal : ℕ → A} {l : List ℕ} (w : Rows g d t k P refusal l) where
+module _ {A : Type 0} {g : Geometry} {d : Disk} {t : Table} {protected : Bool} {k : Kind} {P : A → Type 0} {refusal : ℕ → A} {l : List ℕ} (w : Rows g d t protected k P refusal l) where
   refuse-plain : (n : ℕ) → Plain l n → P (refusal n)
   refuse-plain n p = w .refusing n (plain n (and-left (plainly n) (member n l) p)) (and-right (plainly n) (member n l) p)
 
@@ -143,8 +147,12 @@ module _ {A : Type 0} {g : Geometry} {d : Disk} {t : Table} {k : Kind} {P : A �
   row {test = test} n rest p q = by-check P test _ rest (λ _. refuse-plain n p) q
 
   -- a test that must hold, and that tells why where it does not
-  row-why : {test : Bool} {n : ℕ} (rest : Unit {0} → A) → (test ≡ false → Why g d t k n) → member n l ≡ true → (test ≡ true → P (rest tt)) → P (check (not test) (refusal n) rest)
+  row-why : {test : Bool} {n : ℕ} (rest : Unit {0} → A) → (test ≡ false → Why g d t protected k n) → member n l ≡ true → (test ≡ true → P (rest tt)) → P (check (not test) (refusal n) rest)
   row-why {test = test} {n = n} rest y m q = by-check P (not test) _ rest (λ e. w .refusing n (y (not-true test e)) m) λ e. q (not-false test e)
+
+  -- 144, where the notch is closed and the call could change the image
+  notch-row : {change : Bool} (rest : Unit {0} → A) → (change ≡ true → member writeProtected l ≡ true) → ((change && protected) ≡ false → P (rest tt)) → P (check (change && protected) (refusal writeProtected) rest)
+  notch-row {change = change} rest m q = by-check P (change && protected) _ rest (λ e. w .refusing writeProtected (barred (and-right change protected e)) (m (and-left change protected e))) q
 
   name-row : {x : Name} (rest : (ℕ → ℕ) → A) → ((n : ℕ) → x ≡ Refused n → Plain l n) → ((r : Told x) → P (rest (bytes r))) → P (named x refusal rest)
   name-row {x = x} rest p q = by-name P x refusal rest (λ n e. refuse-plain n (p n e)) λ a e r. q (record { word = a; extension = e; read = r })
@@ -165,7 +173,7 @@ module _ {A : Type 0} {g : Geometry} {d : Disk} {t : Table} {k : Kind} {P : A �
     change-row r = by-passing P _ refusal rest kept λ e. let f = may-change d t s e in r (f .0) (f .1)
 
     -- and 164, where its chain is to be freed
-    free-row : (clean g d s ≡ false → Why g d t k badChain) → member badChain l ≡ true → (locked (flag d s) ≡ false → held d t s ≡ false → clean g d s ≡ true → P (rest tt)) → P (passing (mayFree g d t s) refusal rest)
+    free-row : (clean g d s ≡ false → Why g d t protected k badChain) → member badChain l ≡ true → (locked (flag d s) ≡ false → held d t s ≡ false → clean g d s ≡ true → P (rest tt)) → P (passing (mayFree g d t s) refusal rest)
     unfolding mayFree
     free-row y m r =
         by-passing P _ refusal rest
@@ -190,8 +198,8 @@ module _ {A : Type 0} {g : Geometry} {d : Disk} {t : Table} {k : Kind} {P : A �
     at-plain ends text i n = by-name-at (Plain l) device-in unit-in name-in ends text i n
 
 -- the file of a name
-module _ {g : Geometry} {d : Disk} {t : Table} {k : Kind} where
-  sought-row : {l : List ℕ} {P : Target → Type 0} → Rows g d t k P Denied l → (x : Name) → ((n : ℕ) → x ≡ Refused n → Plain l n)
+module _ {g : Geometry} {d : Disk} {t : Table} {protected : Bool} {k : Kind} where
+  sought-row : {l : List ℕ} {P : Target → Type 0} → Rows g d t protected k P Denied l → (x : Name) → ((n : ℕ) → x ≡ Refused n → Plain l n)
       → ((r : Told x) → find d (bytes r) ≡ Nothing → P (Missing (r .word) (r .extension))) → ((r : Told x) (s : ℕ) → find d (bytes r) ≡ At s → P (Slot s)) → P (sought d x)
   unfolding sought
   sought-row w (Refused n) p q r = refuse-plain w n (p n refl)
@@ -200,7 +208,7 @@ module _ {g : Geometry} {d : Disk} {t : Table} {k : Kind} where
       by-found P _ _ _ (q told) (r told)
 
   -- and one that a command is to change
-  target-row : {l : List ℕ} {P : Target → Type 0} → Rows g d t k P Denied l → (x : Name) → ((n : ℕ) → x ≡ Refused n → Plain l n) → member badTable l ≡ true
+  target-row : {l : List ℕ} {P : Target → Type 0} → Rows g d t protected k P Denied l → (x : Name) → ((n : ℕ) → x ≡ Refused n → Plain l n) → member badTable l ≡ true
       → ((r : Told x) → good (d 360) ≡ true → find d (bytes r) ≡ Nothing → P (Missing (r .word) (r .extension))) → ((s : ℕ) → Aimed g d t x s → P (Slot s)) → P (target d x)
   unfolding target
   target-row w (Refused n) p m q r = refuse-plain w n (p n refl)
@@ -210,8 +218,8 @@ module _ {g : Geometry} {d : Disk} {t : Table} {k : Kind} where
       r s (record { told = n; table = v; at = f })
 
   -- where it is to be there
-  module _ {l : List ℕ} {P : Effect → Type 0} (w : Rows g d t k P (λ n. refused n d t) l) (x : Name) (act : ℕ → Effect) (p : (n : ℕ) → x ≡ Refused n → Plain l n) (m : Plain l notFound) where
-    on-slot : Rows g d t k (λ a. P (aimed g d t a act)) Denied l
+  module _ {l : List ℕ} {P : Effect → Type 0} (w : Rows g d t protected k P (λ n. refused n d t) l) (x : Name) (act : ℕ → Effect) (p : (n : ℕ) → x ≡ Refused n → Plain l n) (m : Plain l notFound) where
+    on-slot : Rows g d t protected k (λ a. P (aimed g d t a act)) Denied l
     unfolding aimed
     on-slot = record { refusing = w .refusing }
 
@@ -224,7 +232,7 @@ module _ {g : Geometry} {d : Disk} {t : Table} {k : Kind} where
     aimed-row n r = target-row on-slot x p n (λ _ _ _. refuse-plain w notFound m) r
 
   -- 13 status, whatever is to be shown of its effect
-  status-row : {P : Effect → Type 0} → Rows g d t k P (λ n. refused n d t) statusAnswers → (text : List ℕ) → P (done g d t d t) → P (statusCall g d t text)
+  status-row : {P : Effect → Type 0} → Rows g d t protected k P (λ n. refused n d t) statusAnswers → (text : List ℕ) → P (done g d t d t) → P (statusCall g d t text)
   unfolding statusCall readName member
   status-row w text p =
       seen-row w _ _ (read-plain w refl ending text) refl λ _ _ _.
@@ -233,7 +241,7 @@ module _ {g : Geometry} {d : Disk} {t : Table} {k : Kind} where
 
 -- a status leaves the disk
 pub status-disk : (g : Geometry) (d : Disk) (t : Table) (text : List ℕ) → statusCall g d t text .disk ≡ d
-status-disk g d t text = status-row {k = asks (Files Status)} {P = λ e. e .disk ≡ d} (record { refusing = λ _ _ _. refl }) text refl
+status-disk g d t text = status-row {protected = false} {k = asks (Files Status)} {P = λ e. e .disk ≡ d} (record { refusing = λ _ _ _. refl }) text refl
 
 -- the answers of a command on a channel below 8
 pub answers-are : (c : Block) (k : Command) → On c k → answers c ≡ commandAnswers (c .direction) k
@@ -277,6 +285,17 @@ closed-any i Lock = refl
 closed-any i Unlock = refl
 closed-any i Format = refl
 
+-- 144 is among the answers of every one of them that could change the image
+barred-any : (i : ℕ) (k : FileCommand) → couldChange i k ≡ true → member writeProtected (commandAnswers i (Files k)) ≡ true
+unfolding commandAnswers openAnswers check member
+barred-any i Open e = rw (eqb-true i 8 e)
+barred-any i Status e = absurd (true≢false (sym e))
+barred-any i Rename e = refl
+barred-any i Delete e = refl
+barred-any i Lock e = refl
+barred-any i Unlock e = refl
+barred-any i Format e = refl
+
 -- a command that is not listed is refused with 132 or 168: what holds of the listed ones and of these two holds of the command of any number
 pub by-command : (P : Command → Type 0) (n : ℕ) → ((k : Transfer) → P (Moves k)) → P Close → ((k : FileCommand) → P (Files k)) → P (Unlisted badCommand) → P (Unlisted notServed) → P (commandOf n)
 unfolding commandOf
@@ -319,23 +338,23 @@ module _ (g : Geometry) (d : Disk) (t : Table) (c : Block) (text b : List ℕ) w
 
   -- its table of checks
   abbrev T : Command → List ℕ → Type 0
-  T k l = Rows g d t (asks k) (A k) (λ n. refused n d t) l
+  T k l = Rows g d t (c .protected) (asks k) (A k) (λ n. refused n d t) l
 
   rows : {k : Command} {l : List ℕ} → On c k → commandAnswers (c .direction) k ≡ l → T k l
   rows {k = k} o e = record { refusing = λ n y m. refuses n y (subst (λ x. member n x ≡ true) (sym (answers-are c k o ∙ e)) m) }
 
   -- 3 open
-  open-read-ends : T (Files Open) readAnswers → Ready g d t c (Files Open) → c .direction ≡ 4 → A (Files Open) (openRead g d t (c .channel) text)
+  open-read-ends : T (Files Open) readAnswers → Ready g d t c Open → c .direction ≡ 4 → A (Files Open) (openRead g d t (c .channel) text)
   unfolding openRead readName member
   open-read-ends w r e =
       seen-row w _ _ (read-plain w refl ending text) refl λ n s f.
       row w _ _ refl λ q.
       opens s (record { ready = r; direction = e; told = n; at = f; quiet = q })
 
-  open-write-ends : T (Files Open) writeAnswers → Ready g d t c (Files Open) → c .direction ≡ 8 → A (Files Open) (openWrite g d t (c .channel) text)
+  open-write-ends : T (Files Open) writeAnswers → Ready g d t c Open → c .direction ≡ 8 → A (Files Open) (openWrite g d t (c .channel) text)
   unfolding openWrite openTarget openFound openNew readName member
   open-write-ends w r e =
-      let v : Rows g d t (asks (Files Open)) (λ a. A (Files Open) (openTarget g d t (c .channel) a)) Denied writeAnswers = record { refusing = w .refusing } in
+      let v : Rows g d t (c .protected) (asks (Files Open)) (λ a. A (Files Open) (openTarget g d t (c .channel) a)) Denied writeAnswers = record { refusing = w .refusing } in
       target-row v _ (read-plain w refl ending text) refl
       (λ n y f.
       found-row w _ _ refl λ s z.
@@ -345,7 +364,7 @@ module _ (g : Geometry) (d : Disk) (t : Table) (c : Block) (text b : List ℕ) w
       free-row w s _ refl refl (no-chain _ s (a .at)) refl λ u h k.
       rewrites s (record { ready = r; direction = e; aim = a; unlocked = u; unheld = h; clear = k })
 
-  open-ends : Ready g d t c (Files Open) → A (Files Open) (openCall g d t (c .channel) (c .direction) text)
+  open-ends : Ready g d t c Open → A (Files Open) (openCall g d t (c .channel) (c .direction) text)
   unfolding openCall commandAnswers member
   open-ends r =
       let i = c .direction in
@@ -354,19 +373,20 @@ module _ (g : Geometry) (d : Disk) (t : Table) (c : Block) (text b : List ℕ) w
       refuse-plain (rows (r .on) (open-else i e f)) _ refl
 
   -- an open for input, on a closed channel, goes on with its name
-  pub open-input : Ready g d t c (Files Open) → c .direction ≡ 4 → onClosed g d t c text Open ≡ openRead g d t (c .channel) text
+  pub open-input : Ready g d t c Open → c .direction ≡ 4 → onClosed g d t c text Open ≡ openRead g d t (c .channel) text
   unfolding onClosed fileCommand openCall
   open-input r e =
       check-no {A = Effect} _ _ _ (r .shut)
+      ∙ check-no {A = Effect} _ _ _ (r .permitted)
       ∙ check-yes {A = Effect} (eqb (c .direction) 4) _ _ (rw e)
 
   -- 13 status
-  status-ends : Ready g d t c (Files Status) → A (Files Status) (statusCall g d t text)
+  status-ends : Ready g d t c Status → A (Files Status) (statusCall g d t text)
   unfolding commandAnswers
   status-ends r = status-row (rows (r .on) refl) text (tells r)
 
   -- 32 rename
-  rename-ends : Ready g d t c (Files Rename) → A (Files Rename) (renameCall g d t text)
+  rename-ends : Ready g d t c Rename → A (Files Rename) (renameCall g d t text)
   unfolding renameCall renameAt oldName newName commandAnswers member
   rename-ends r =
       let w = rows (r .on) refl in
@@ -379,7 +399,7 @@ module _ (g : Geometry) (d : Disk) (t : Table) (c : Block) (text b : List ℕ) w
       renames s (record { ready = r; aim = record { told = old; table = a .table; at = a .at }; told = n; unlocked = u; unheld = h; alone = k })
 
   -- 33 delete
-  delete-ends : Ready g d t c (Files Delete) → A (Files Delete) (deleteCall g d t text)
+  delete-ends : Ready g d t c Delete → A (Files Delete) (deleteCall g d t text)
   unfolding deleteCall deleteAt readName commandAnswers member
   delete-ends r =
       let w = rows (r .on) refl in
@@ -388,8 +408,8 @@ module _ (g : Geometry) (d : Disk) (t : Table) (c : Block) (text b : List ℕ) w
       deletes s (record { ready = r; aim = a; unlocked = u; unheld = h; clear = k })
 
   -- 35 lock and 36 unlock, by what they make of the flags
-  flag-ends : (k : Command) (change : ℕ → ℕ → ℕ) → Ready g d t c k → commandAnswers (c .direction) k ≡ lockAnswers
-      → ((s : ℕ) → Flags g d t c k text s → A k (done g d t (writeFlag d s (change (flag d s) 5)) t)) → A k (aimed g d t (target d (readName text)) (flagAt g d t change))
+  flag-ends : (k : FileCommand) (change : ℕ → ℕ → ℕ) → Ready g d t c k → commandAnswers (c .direction) (Files k) ≡ lockAnswers
+      → ((s : ℕ) → Flags g d t c k text s → A (Files k) (done g d t (writeFlag d s (change (flag d s) 5)) t)) → A (Files k) (aimed g d t (target d (readName text)) (flagAt g d t change))
   unfolding flagAt readName member
   flag-ends k change r e act =
       let w = rows (r .on) e in
@@ -397,16 +417,16 @@ module _ (g : Geometry) (d : Disk) (t : Table) (c : Block) (text b : List ℕ) w
       row w _ _ refl λ h.
       act s (record { ready = r; aim = a; unheld = h })
 
-  lock-ends : Ready g d t c (Files Lock) → A (Files Lock) (lockCall g d t text)
+  lock-ends : Ready g d t c Lock → A (Files Lock) (lockCall g d t text)
   unfolding lockCall commandAnswers
-  lock-ends r = flag-ends (Files Lock) bitOn r refl locks
+  lock-ends r = flag-ends Lock bitOn r refl locks
 
-  unlock-ends : Ready g d t c (Files Unlock) → A (Files Unlock) (unlockCall g d t text)
+  unlock-ends : Ready g d t c Unlock → A (Files Unlock) (unlockCall g d t text)
   unfolding unlockCall commandAnswers
-  unlock-ends r = flag-ends (Files Unlock) bitOff r refl unlocks
+  unlock-ends r = flag-ends Unlock bitOff r refl unlocks
 
   -- 254 format
-  format-ends : Ready g d t c (Files Format) → A (Files Format) (formatCall g d t text)
+  format-ends : Ready g d t c Format → A (Files Format) (formatCall g d t text)
   unfolding formatCall commandAnswers member
   format-ends r =
       let w = rows (r .on) refl in
@@ -416,7 +436,7 @@ module _ (g : Geometry) (d : Disk) (t : Table) (c : Block) (text b : List ℕ) w
       formats (record { ready = r; none = n })
 
   -- the commands that need a closed channel
-  file-ends : (k : FileCommand) → Ready g d t c (Files k) → A (Files k) (fileCommand g d t c text k)
+  file-ends : (k : FileCommand) → Ready g d t c k → A (Files k) (fileCommand g d t c text k)
   unfolding fileCommand
   file-ends Open = open-ends
   file-ends Status = status-ends
@@ -429,19 +449,22 @@ module _ (g : Geometry) (d : Disk) (t : Table) (c : Block) (text b : List ℕ) w
   closed-ends : (k : FileCommand) → On c (Files k) → A (Files k) (onClosed g d t c text k)
   unfolding onClosed
   closed-ends k o =
-      row (rows o refl) _ _ (closed-any (c .direction) k) λ h.
-      file-ends k (record { on = o; shut = h })
+      let w = rows o refl in
+      row w _ _ (closed-any (c .direction) k) λ h.
+      notch-row w _ (barred-any (c .direction) k) λ q.
+      file-ends k (record { on = o; shut = h; permitted = q })
 
   -- 12 close
-  close-ends : On c Close → A Close (closeCall g d t (c .channel))
-  unfolding closeCall closeState
+  close-ends : On c Close → A Close (closeCall g d t (c .channel) (c .protected))
+  unfolding closeCall closeState commandAnswers member
   close-ends o = go (stateOf t (c .channel)) refl
     where
-      go : (st : State) → stateOf t (c .channel) ≡ st → A Close (closeState g d t (c .channel) st)
+      go : (st : State) → stateOf t (c .channel) ≡ st → A Close (closeState g d t (c .channel) (c .protected) st)
       go Closed e = frees o (λ s p q. let y : _≡_ {A = ℕ} 0 1 = cc in absurd (omega arith))
       go (Reading s k o' l) e = frees o (λ s' p q. let y : _≡_ {A = ℕ} 0 1 = cc in absurd (omega arith))
       go (Writing s p) e =
-          let h : Closes g d t c s p = record { on = o; state = e } in
+          notch-row (rows o refl) {change = true} _ (λ _. refl) λ u.
+          let h : Closes g d t c s p = record { on = o; state = e; permitted = u } in
           by-check (A Close) _ _ _ (λ q. drops s p h (not-true (is43 d s) q)) λ q.
           closes s p h (not-false (is43 d s) q)
 
@@ -454,22 +477,23 @@ module _ (g : Geometry) (d : Disk) (t : Table) (c : Block) (text b : List ℕ) w
   got o e (get-none s k i l n) = rw (with-id t (c .channel) (Reading s k i l) e) (reads-none o n)
   got o e (get-some s k i l n p) = reads s k i l (record { on = o; state = e; wanted = n; passes = p })
 
-  put-why : On c (Moves Put) → {st : State} → stateOf t (c .channel) ≡ st → {n : ℕ} → PutWhy g d st n → Why g d t (asks (Moves Put)) n
+  put-why : On c (Moves Put) → {st : State} → stateOf t (c .channel) ≡ st → {n : ℕ} → PutWhy g d (c .protected) st n → Why g d t (c .protected) (asks (Moves Put)) n
   put-why o e (put-plain n p) = plain n p
+  put-why o e (put-barred q) = barred q
   put-why o e (put-no-table v) = no-table v
   put-why o e (put-broken s p w) = no-write (c .channel) s p (o .small) e w
 
-  put : On c (Moves Put) → {st : State} → stateOf t (c .channel) ≡ st → {r : PutOutcome} → PutEnds g d b st r → A (Moves Put) (putLeaves t (c .channel) r)
+  put : On c (Moves Put) → {st : State} → stateOf t (c .channel) ≡ st → {r : PutOutcome} → PutEnds g d (c .protected) b st r → A (Moves Put) (putLeaves t (c .channel) r)
   unfolding puts commandAnswers member
   put o e (put-refuses st n w m) = rw (with-id t (c .channel) st e) (rows o refl .refusing n (put-why o e w) m)
   put o e (put-none s p n) = rw (with-id t (c .channel) (Writing s p) e) (writes-none o n)
-  put o e (put-some s p n v w) = writes s p (record { on = o; state = e; waiting = n; table = v; passes = w })
+  put o e (put-some s p u n v w) = writes s p (record { on = o; state = e; permitted = u; waiting = n; table = v; passes = w })
 
   -- every command on a channel below 8
   pub command-ends : (k : Command) → On c k → Ends g d t (asks k) (cioOf c text b) (command g d t k c text b)
   unfolding command transfer getAt putAt commandAnswers
   command-ends (Moves Get) o = got o refl (get-ends g d (stateOf t (c .channel)) b)
-  command-ends (Moves Put) o = put o refl (put-ends g d (stateOf t (c .channel)) b)
+  command-ends (Moves Put) o = put o refl (put-ends g d (c .protected) (stateOf t (c .channel)) b)
   command-ends Close o = close-ends o
   command-ends (Files k) o = closed-ends k o
   command-ends (Unlisted n) o = rows o refl .refusing n (plain n (subst (λ k. plainlyUnlisted k ≡ true) (o .command) (unlisted-plain (c .command)))) (member-head n [])
@@ -481,25 +505,26 @@ module _ (g : Geometry) (d : Disk) (t : Table) (c : Block) (text b : List ℕ) w
       λ q. command-ends (commandOf (c .command)) (record { small = leb-false 8 (c .channel) q; command = refl })
 
 -- a recovery
-recover-ends : (g : Geometry) (d : Disk) (t : Table) (s : ℕ) → Ends g d t recovers (recoveryOf s) (outcome (recovering (recover g d s) t) [])
+recover-ends : (g : Geometry) (d : Disk) (t : Table) (protected : Bool) (s : ℕ) → Ends g d t recovers (recoveryOf protected s) (outcome (recovering (recover g d protected s) t) [])
 unfolding recover member
-recover-ends g d t s =
-    let w : Rows g d t recovers R (λ n. recovered n 0 d) recoveryAnswers = record { refusing = refuses } in
+recover-ends g d t protected s =
+    let w : Rows g d t protected recovers R (λ n. recovered n 0 d) recoveryAnswers = record { refusing = refuses } in
+    notch-row w {change = true} _ (λ _. refl) λ u.
     row-why w _ (λ _. plain _ refl) refl λ h.
     row-why w _ no-table refl λ v.
     row-why w _ (λ _. plain _ refl) refl λ l.
     row w _ _ refl λ k.
     row-why w _ (λ _. plain _ refl) refl λ c.
-    restores s (record { passes = h; table = v; legals = l; alone = k; clear = c })
+    restores s (record { permitted = u; passes = h; table = v; legals = l; alone = k; clear = c })
   where
     R : Recovered → Type 0
-    R r = Ends g d t recovers (recoveryOf s) (outcome (recovering r t) [])
+    R r = Ends g d t recovers (recoveryOf protected s) (outcome (recovering r t) [])
 
 -- every call ends in a refusal or in one of the acts
 pub ends : (g : Geometry) (c : Call) (x : System) → Ends g (x .disk) (x .table) (kindOf c) c (outcomeOf g c x)
 unfolding outcomeOf
 ends g (cioOf c text b) x = cio-ends g (x .disk) (x .table) c text b
-ends g (recoveryOf s) x = recover-ends g (x .disk) (x .table) s
+ends g (recoveryOf protected s) x = recover-ends g (x .disk) (x .table) protected s
 
 -- a CIO call whose command is known ends in an act of that command
 pub ends-as : (g : Geometry) (d : Disk) (t : Table) (c : Block) (text b : List ℕ) (k : Command) → Asks c k → Ends g d t (asks k) (cioOf c text b) (cio g d t c text b)

@@ -1,5 +1,5 @@
 -- Demand 1: every call ends with a status number. A refused call reports no bytes and changes nothing, but for the listed partial transfers.
-use mathlib.Core.Bool.{true, false}
+use mathlib.Core.Bool.{Bool, true, false}
 use mathlib.Core.List.{List, [], _∷_}
 use mathlib.Core.Logic.{_≢_, _↔_, _⊎_}
 use mathlib.Core.Path.{_≡_}
@@ -21,7 +21,7 @@ use Rattle.layout.specs.Basics.{check, member}
 use Rattle.layout.specs.Image.{Disk, atrSingle, atrDouble, geometryOf, view}
 use Rattle.layout.specs.Header.{agrees, servedAs}
 use Rattle.layout.specs.Channels.{stateOf, withState}
-use Rattle.layout.specs.Status.{success, badImage, badHeader, badChannel, notServed, channelOpen, channelClosed, writeOnly, readOnly, badDevice, badUnit, badName, badTable, notFound, fileLocked, fileHeld, badChain, nameTaken, noSlot, diskFull, endOfFile, lostChain, noDevice, badRequest, badLength}
+use Rattle.layout.specs.Status.{success, badImage, badHeader, badChannel, notServed, channelOpen, channelClosed, writeOnly, readOnly, writeProtected, badDevice, badUnit, badName, badTable, notFound, fileLocked, fileHeld, badChain, nameTaken, noSlot, diskFull, endOfFile, lostChain, noDevice, badRequest, badLength}
 use Rattle.rules.specs.Cio.{ImageOutcome, commandOf, Asks, cioCall}
 use Rattle.rules.specs.Recovery.{recoverCall}
 use Rattle.rules.specs.Sectors.{sectorCall}
@@ -35,7 +35,7 @@ readAnswers = success ∷ channelOpen ∷ badDevice ∷ badUnit ∷ badName ∷ 
 
 -- those of an open for output
 abbrev pub writeAnswers : List ℕ
-writeAnswers = success ∷ channelOpen ∷ badDevice ∷ badUnit ∷ badName ∷ badTable ∷ fileLocked ∷ fileHeld ∷ badChain ∷ noSlot ∷ diskFull ∷ []
+writeAnswers = success ∷ channelOpen ∷ writeProtected ∷ badDevice ∷ badUnit ∷ badName ∷ badTable ∷ fileLocked ∷ fileHeld ∷ badChain ∷ noSlot ∷ diskFull ∷ []
 
 -- those of an open, by its direction
 unfoldable pub openAnswers : ℕ → List ℕ
@@ -50,11 +50,11 @@ getAnswers = success ∷ channelClosed ∷ writeOnly ∷ endOfFile ∷ badChain 
 
 -- those of a put
 abbrev pub putAnswers : List ℕ
-putAnswers = success ∷ channelClosed ∷ readOnly ∷ badTable ∷ badChain ∷ diskFull ∷ []
+putAnswers = success ∷ channelClosed ∷ readOnly ∷ writeProtected ∷ badTable ∷ badChain ∷ diskFull ∷ []
 
 -- those of a close
 abbrev pub closeAnswers : List ℕ
-closeAnswers = success ∷ badChain ∷ []
+closeAnswers = success ∷ writeProtected ∷ badChain ∷ []
 
 -- those of a status
 abbrev pub statusAnswers : List ℕ
@@ -62,19 +62,19 @@ statusAnswers = success ∷ channelOpen ∷ badDevice ∷ badUnit ∷ badName �
 
 -- those of a rename
 abbrev pub renameAnswers : List ℕ
-renameAnswers = success ∷ channelOpen ∷ badDevice ∷ badUnit ∷ badName ∷ badTable ∷ notFound ∷ fileLocked ∷ fileHeld ∷ nameTaken ∷ []
+renameAnswers = success ∷ channelOpen ∷ writeProtected ∷ badDevice ∷ badUnit ∷ badName ∷ badTable ∷ notFound ∷ fileLocked ∷ fileHeld ∷ nameTaken ∷ []
 
 -- those of a delete
 abbrev pub deleteAnswers : List ℕ
-deleteAnswers = success ∷ channelOpen ∷ badDevice ∷ badUnit ∷ badName ∷ badTable ∷ notFound ∷ fileLocked ∷ fileHeld ∷ badChain ∷ []
+deleteAnswers = success ∷ channelOpen ∷ writeProtected ∷ badDevice ∷ badUnit ∷ badName ∷ badTable ∷ notFound ∷ fileLocked ∷ fileHeld ∷ badChain ∷ []
 
 -- those of a lock or an unlock
 abbrev pub lockAnswers : List ℕ
-lockAnswers = success ∷ channelOpen ∷ badDevice ∷ badUnit ∷ badName ∷ badTable ∷ notFound ∷ fileHeld ∷ []
+lockAnswers = success ∷ channelOpen ∷ writeProtected ∷ badDevice ∷ badUnit ∷ badName ∷ badTable ∷ notFound ∷ fileHeld ∷ []
 
 -- those of a format
 abbrev pub formatAnswers : List ℕ
-formatAnswers = success ∷ channelOpen ∷ badDevice ∷ badUnit ∷ badName ∷ fileHeld ∷ []
+formatAnswers = success ∷ channelOpen ∷ writeProtected ∷ badDevice ∷ badUnit ∷ badName ∷ fileHeld ∷ []
 
 -- those of a command, by the direction of its block
 unfoldable pub commandAnswers : ℕ → Command → List ℕ
@@ -98,31 +98,31 @@ answers c =
 
 -- those of a recovery
 abbrev pub recoveryAnswers : List ℕ
-recoveryAnswers = success ∷ notFound ∷ badTable ∷ badName ∷ nameTaken ∷ lostChain ∷ []
+recoveryAnswers = success ∷ writeProtected ∷ notFound ∷ badTable ∷ badName ∷ nameTaken ∷ lostChain ∷ []
 
 -- those of a sector call
 abbrev pub sectorAnswers : List ℕ
-sectorAnswers = success ∷ noDevice ∷ badRequest ∷ badLength ∷ []
+sectorAnswers = success ∷ noDevice ∷ badRequest ∷ writeProtected ∷ badLength ∷ []
 
 -- those of the header's writer
 abbrev pub headerAnswers : List ℕ
-headerAnswers = success ∷ badImage ∷ []
+headerAnswers = success ∷ badImage ∷ writeProtected ∷ []
 
 -- on image l, which is served, every call answers one of its numbers and no other
 pub record Answers (l : List ℕ) : Type 0 where
   pub calls : (t : Table) (c : Block) (text b : List ℕ) → member (cioCall l t c text b .answer .status) (answers c) ≡ true
-  pub recoveries : (s : ℕ) → member (recoverCall l s .reply .status) recoveryAnswers ≡ true
-  pub sectors : (device unit command k : ℕ) (b : List ℕ) → member (sectorCall l device unit command k b .reply .status) sectorAnswers ≡ true
+  pub recoveries : (protected : Bool) (s : ℕ) → member (recoverCall l protected s .reply .status) recoveryAnswers ≡ true
+  pub sectors : (protected : Bool) (device unit command k : ℕ) (b : List ℕ) → member (sectorCall l protected device unit command k b .reply .status) sectorAnswers ≡ true
   pub thinGets : (c : Channel) (b : List ℕ) → member (thinGet l c b .answer .status) getAnswers ≡ true
-  pub thinPuts : (c : Channel) (b : List ℕ) → member (thinPut l c b .answer .status) putAnswers ≡ true
+  pub thinPuts : (protected : Bool) (c : Channel) (b : List ℕ) → member (thinPut l protected c b .answer .status) putAnswers ≡ true
 
 -- on image l, which is not served, 203 or 205 comes first: each of these calls answers it, whatever else it was given
 pub record Unserved (l : List ℕ) (n : ℕ) : Type 0 where
   pub calls : (t : Table) (c : Block) (text b : List ℕ) → cioCall l t c text b .answer .status ≡ n
-  pub recoveries : (s : ℕ) → recoverCall l s .reply .status ≡ n
-  pub sectors : (device unit command k : ℕ) (b : List ℕ) → sectorCall l device unit command k b .reply .status ≡ n
+  pub recoveries : (protected : Bool) (s : ℕ) → recoverCall l protected s .reply .status ≡ n
+  pub sectors : (protected : Bool) (device unit command k : ℕ) (b : List ℕ) → sectorCall l protected device unit command k b .reply .status ≡ n
   pub thinGets : (c : Channel) (b : List ℕ) → thinGet l c b .answer .status ≡ n
-  pub thinPuts : (c : Channel) (b : List ℕ) → thinPut l c b .answer .status ≡ n
+  pub thinPuts : (protected : Bool) (c : Channel) (b : List ℕ) → thinPut l protected c b .answer .status ≡ n
   -- showing answers no
   pub shown : (s k : ℕ) → shows l s k ≡ false
 
@@ -155,13 +155,13 @@ pub record Unchanged (l : List ℕ) (t : Table) (b : List ℕ) (o : ImageOutcome
 -- a refused call reports no bytes and changes nothing
 pub record Refusals : Type 0 where
   pub calls : (l : List ℕ) (t : Table) (c : Block) (text b : List ℕ) → let o = cioCall l t c text b in Refusal (commandOf (c .command)) (o .answer .status) → Unchanged l t b o
-  pub recoveries : (l : List ℕ) (s : ℕ) → let r = recoverCall l s in r .reply .status ≢ success → (r .reply .count ≡ 0) × (r .image ≡ l)
-  pub sectors : (l : List ℕ) (device unit command k : ℕ) (b : List ℕ) → let o = sectorCall l device unit command k b in o .reply .status ≢ success → (o .reply .count ≡ 0) × (o .image ≡ l) × (o .buffer ≡ b)
+  pub recoveries : (l : List ℕ) (protected : Bool) (s : ℕ) → let r = recoverCall l protected s in r .reply .status ≢ success → (r .reply .count ≡ 0) × (r .image ≡ l)
+  pub sectors : (l : List ℕ) (protected : Bool) (device unit command k : ℕ) (b : List ℕ) → let o = sectorCall l protected device unit command k b in o .reply .status ≢ success → (o .reply .count ≡ 0) × (o .image ≡ l) × (o .buffer ≡ b)
   -- a thin call on one lent record
   pub thinGets : (l : List ℕ) (c : Channel) (b : List ℕ) → let o = thinGet l c b in Refusal (Moves Get) (o .answer .status) → (o .answer .count ≡ 0) × (o .answer .state ≡ c .state) × (o .buffer ≡ b)
-  pub thinPuts : (l : List ℕ) (c : Channel) (b : List ℕ) → let o = thinPut l c b in Refusal (Moves Put) (o .answer .status) → (o .answer .count ≡ 0) × (o .answer .state ≡ c .state) × (o .image ≡ l)
+  pub thinPuts : (l : List ℕ) (protected : Bool) (c : Channel) (b : List ℕ) → let o = thinPut l protected c b in Refusal (Moves Put) (o .answer .status) → (o .answer .count ≡ 0) × (o .answer .state ≡ c .state) × (o .image ≡ l)
   -- the header's writer
-  pub headers : (l : List ℕ) → let o = headerCall l in o .reply .status ≢ success → (o .reply .count ≡ 0) × (o .image ≡ l)
+  pub headers : (l : List ℕ) (protected : Bool) → let o = headerCall l protected in o .reply .status ≢ success → (o .reply .count ≡ 0) × (o .image ≡ l)
 
 -- of n bytes reported and the buffer after them: no more than were lent, and the rest of the buffer is left
 pub record Moved (n : ℕ) (after b : List ℕ) : Type 0 where
@@ -189,15 +189,15 @@ pub record Transfers : Type 0 where
   -- a put leaves the buffer, the other channels and all of the disk but the file's end
   pub puts : (l : List ℕ) (t : Table) (c : Block) (text b : List ℕ) → Asks c (Moves Put)
       → let o = cioCall l t c text b in (o .answer .count ≤ length b) × (o .buffer ≡ b) × OnlyChannel t (c .channel) (o .answer .table) × OnlyEndOn (stateOf t (c .channel)) l (o .image) (o .given)
-  pub thinPuts : (l : List ℕ) (c : Channel) (b : List ℕ) → let o = thinPut l c b in (o .answer .count ≤ length b) × OnlyEndOn (c .state) l (o .image) (o .given)
+  pub thinPuts : (l : List ℕ) (protected : Bool) (c : Channel) (b : List ℕ) → let o = thinPut l protected c b in (o .answer .count ≤ length b) × OnlyEndOn (c .state) l (o .image) (o .given)
   -- a close with 164 frees its channel, and changes nothing else
   pub closes : (l : List ℕ) (t : Table) (c : Block) (text b : List ℕ) → Asks c Close → let o = cioCall l t c text b in o .answer .status ≡ badChain → Unchanged l (withState t (c .channel) Closed) b o
 
--- demand 1: any image of any length, any channels, command block, name, buffer, slot and channel record
+-- demand 1: any image of any length, with the notch either way, any channels, command block, name, buffer, slot and channel record
 pub record Demand1 : Type 0 where
   pub answers : (l : List ℕ) (m : Medium) → servedAs l ≡ As m → Answers l
   pub unserved : (l : List ℕ) (n : ℕ) → servedAs l ≡ Not n → Unserved l n
   pub reasons : (l : List ℕ) → Reasons l
-  pub headers : (l : List ℕ) → member (headerCall l .reply .status) headerAnswers ≡ true
+  pub headers : (l : List ℕ) (protected : Bool) → member (headerCall l protected .reply .status) headerAnswers ≡ true
   pub refusals : Refusals
   pub transfers : Transfers

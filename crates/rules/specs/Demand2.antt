@@ -1,5 +1,5 @@
 -- Demand 2: on a sound disk, what was written and closed reads back the same, whatever other calls stand between.
-use mathlib.Core.Bool.{false, _&&_}
+use mathlib.Core.Bool.{Bool, true, false, _&&_}
 use mathlib.Core.List.{List, [], _∷_, _++_}
 use mathlib.Core.Logic.{_≢_, _⊎_}
 use mathlib.Core.Path.{_≡_}
@@ -23,21 +23,26 @@ use Rattle.layout.specs.Directory.{flag, count, find}
 use Rattle.layout.specs.File.{file}
 use Rattle.layout.specs.Channels.{stateOf, openAt}
 use Rattle.layout.specs.Names.{nameByte, readName, oldName}
-use Rattle.layout.specs.Status.{success, diskFull, endOfFile}
+use Rattle.layout.specs.Status.{success, writeProtected, diskFull, endOfFile}
 use Rattle.rules.specs.Commands.{Effect}
 use Rattle.rules.specs.Cio.{Outcome, isGet, isPut, commandOf, Asks}
 use Rattle.rules.specs.Sound.{Stands, SameName, Sound}
-use Rattle.rules.specs.Lists.{Call, cioOf, recoveryOf, System, Event, Machine, run, events, disks, ImageTable, images, SoundImage}
+use Rattle.rules.specs.Lists.{Call, cioOf, recoveryOf, protectedIn, System, Event, Machine, run, events, disks, ImageTable, images, SoundImage}
 
 -- the call is this command on channel i
 abbrev pub On : ℕ → Command → Call → Type 0
 On i command (cioOf c text b) = (c .channel ≡ i) × Asks c command
-On i command (recoveryOf s) = ⊥
+On i command (recoveryOf protected s) = ⊥
 
--- no call of the list closes channel i
-abbrev pub StaysOpen : ℕ → List Call → Type 0
+-- no call of the list closes channel i: a close of it answered 144, which leaves it open
+abbrev pub StaysOpen : ℕ → List Event → Type 0
 StaysOpen i [] = Unit {0}
-StaysOpen i (c ∷ cs) = (On i Close c → ⊥) × StaysOpen i cs
+StaysOpen i (e ∷ es) = (On i Close (e .call) → e .outcome .effect .status ≡ writeProtected) × StaysOpen i es
+
+-- what a put on a channel that writes answers on a sound disk: with the notch open 1 or 162, with it closed 144
+abbrev pub PutAnswers : Bool → ℕ → Type 0
+PutAnswers false n = (n ≡ success) ⊎ (n ≡ diskFull)
+PutAnswers true n = n ≡ writeProtected
 
 -- the name that was taken apart is found in slot s
 abbrev pub Finds : Disk → Name → ℕ → Type 0
@@ -58,12 +63,12 @@ AtStart y i s = stateOf (y .table) i ≡ Reading s 0 0 (count (y .disk) s)
 -- the bytes that a call with this outcome put on channel i, as many as it reports, also with 162; none where it is no put on this channel
 unfoldable pub putBy : ℕ → Call → Outcome → List ℕ
 putBy i (cioOf c text b) o = if (eqb (c .channel) i && isPut (commandOf (c .command))) (take (o .effect .count) b) []
-putBy i (recoveryOf s) o = []
+putBy i (recoveryOf protected s) o = []
 
 -- the bytes that it got from channel i, as many as it reports, out of the buffer after it
 unfoldable pub gotBy : ℕ → Call → Outcome → List ℕ
 gotBy i (cioOf c text b) o = if (eqb (c .channel) i && isGet (commandOf (c .command))) (take (o .effect .count) (o .buffer)) []
-gotBy i (recoveryOf s) o = []
+gotBy i (recoveryOf protected s) o = []
 
 -- those that all calls of a list put on channel i, in order
 unfoldable pub putBytes : ℕ → List Event → List ℕ
@@ -85,12 +90,12 @@ pub record LeavesFile (s : ℕ) (c : Block) (text : List ℕ) (y : System) (e : 
 -- a call leaves the file of slot s; a recovery leaves every file
 abbrev pub Leaves : ℕ → Call → System → Effect → Type 0
 Leaves s (cioOf c text b) y e = LeavesFile s c text y e
-Leaves s (recoveryOf x) y e = Unit {0}
+Leaves s (recoveryOf protected x) y e = Unit {0}
 
 -- a call leaves the name of that file: it is no rename of it that answers 1
 abbrev pub LeavesName : ℕ → Call → System → Effect → Type 0
 LeavesName s (cioOf c text b) y e = Asks c (Files Rename) → Finds (y .disk) (oldName text) s → e .status ≢ success
-LeavesName s (recoveryOf x) y e = Unit {0}
+LeavesName s (recoveryOf protected x) y e = Unit {0}
 
 -- every call of the list leaves the file
 abbrev pub LeavesAll : ℕ → List Event → Type 0
@@ -130,11 +135,13 @@ module _ (g : Geometry) where
     pub stands : Stands (z .disk) s
     pub named : SameName (z .disk) s (y .disk) s
     pub bytes : file g (z .disk) s ≡ file g (y .disk) s ++ put
-    -- a put on the channel then answers 1 or 162; where it answers 1 it puts all that it was lent
-    pub next : (c : Block) (text b : List ℕ) → On i (Moves Put) (cioOf c text b) → let e = does (cioOf c text b) .effect in (e .status ≡ success) ⊎ (e .status ≡ diskFull)
+    -- a put on the channel then answers 1 or 162, or 144; where it answers 1 it puts all that it was lent
+    pub next : (c : Block) (text b : List ℕ) → On i (Moves Put) (cioOf c text b) → PutAnswers (c .protected) (does (cioOf c text b) .effect .status)
     pub whole : (c : Block) (text b : List ℕ) → On i (Moves Put) (cioOf c text b) → let o = does (cioOf c text b) in o .effect .status ≡ success → putBy i (cioOf c text b) o ≡ b
-    -- a close of the channel answers 1 and leaves file and name, and the file is no longer open for output
-    pub closes : (c : Call) → On i Close c → let e = does c .effect in (e .status ≡ success) × FileKept (z .disk) (e .disk) s × SameName (e .disk) s (y .disk) s × (flag (e .disk) s ≡ 0x42)
+    -- a close of the channel with the notch closed answers 144
+    pub stays : (c : Call) → On i Close c → protectedIn c ≡ true → does c .effect .status ≡ writeProtected
+    -- with the notch open it answers 1 and leaves file and name, and the file is no longer open for output
+    pub closes : (c : Call) → On i Close c → protectedIn c ≡ false → let e = does c .effect in (e .status ≡ success) × FileKept (z .disk) (e .disk) s × SameName (e .disk) s (y .disk) s × (flag (e .disk) s ≡ 0x42)
 
   -- channel i of y was before the first byte of slot s, whose file has these bytes; a list of calls that did not close it got these from it and left z
   pub record Delivered (bytes : List ℕ) (y z : System) (does : Call → Outcome) (i s : ℕ) (got : List ℕ) : Type 0 where
@@ -171,14 +178,14 @@ module _ (g : Geometry) where
           → m .outcome (cioOf c again b) z .effect .status ≡ success
       -- and then gets among any other calls hand out these bytes, from the first to the last
       pub reads : (c : Block) (again b : List ℕ) → Asks c (Files Open) → c .direction ≡ 4 → Finds (m .system z .disk) (readName again) s → let call = cioOf c again b in m .outcome call z .effect .status ≡ success
-          → (es : List Call) → StaysOpen (c .channel) es → DeliveredOver put (m .next call z) (c .channel) s es
+          → (es : List Call) → StaysOpen (c .channel) (events m es (m .next call z)) → DeliveredOver put (m .next call z) (c .channel) s es
 
     -- demand 2, from x on
     pub record Demand2 (x : X) : Type 0 where
       -- an open for output that answers 1
       pub opens : (c : Block) (text b : List ℕ) → Asks c (Files Open) → c .direction ≡ 8 → let call = cioOf c text b in m .outcome call x .effect .status ≡ success → OpenedOutput c text (m .system (m .next call x))
       -- puts among any other calls, up to the channel's close
-      pub puts : (i s : ℕ) → i < 8 → WritesTo (m .system x .table) i s → (cs : List Call) → StaysOpen i cs → StoredOver x i s cs
+      pub puts : (i s : ℕ) → i < 8 → WritesTo (m .system x .table) i s → (cs : List Call) → StaysOpen i (events m cs x) → StoredOver x i s cs
       -- any calls that leave a standing file: it keeps its bytes, and its name unless it was renamed
       pub keeps : (s : ℕ) → Stands (m .system x .disk) s → (cs : List Call) → LeavesAll s (events m cs x) → FileKept (m .system x .disk) (m .system (run m cs x) .disk) s
       pub names : (s : ℕ) → Stands (m .system x .disk) s → (cs : List Call) → LeavesAll s (events m cs x) → LeavesNameAll s (events m cs x) → SameName (m .system (run m cs x) .disk) s (m .system x .disk) s
@@ -186,10 +193,10 @@ module _ (g : Geometry) where
       pub reopens : (c : Block) (text b : List ℕ) → Asks c (Files Open) → c .direction ≡ 4 → (s : ℕ) → Finds (m .system x .disk) (readName text) s → let call = cioOf c text b in m .outcome call x .effect .status ≡ success
           → (c .channel < 8) × (m .system (m .next call x) .disk ≡ m .system x .disk) × AtStart (m .system (m .next call x)) (c .channel) s
       -- gets among any other calls, up to the channel's close
-      pub gets : (i s : ℕ) → i < 8 → AtStart (m .system x) i s → (cs : List Call) → StaysOpen i cs → DeliveredOver (file g (m .system x .disk) s) x i s cs
-      -- the whole: an open for output that answers 1, puts among any other calls, the close, which answers 1, and any calls that leave the file
+      pub gets : (i s : ℕ) → i < 8 → AtStart (m .system x) i s → (cs : List Call) → StaysOpen i (events m cs x) → DeliveredOver (file g (m .system x .disk) s) x i s cs
+      -- the whole: an open for output that answers 1, puts among any other calls, closes with the notch closed too, the close with it open, which answers 1, and any calls that leave the file
       pub whole : (c : Block) (text b : List ℕ) → Asks c (Files Open) → c .direction ≡ 8 → let call = cioOf c text b in m .outcome call x .effect .status ≡ success
-          → (s : ℕ) → WritesTo (m .system (m .next call x) .table) (c .channel) s → (cs : List Call) → StaysOpen (c .channel) cs → (close : Call) → On (c .channel) Close close
+          → (s : ℕ) → WritesTo (m .system (m .next call x) .table) (c .channel) s → (cs : List Call) → StaysOpen (c .channel) (events m cs (m .next call x)) → (close : Call) → On (c .channel) Close close → protectedIn close ≡ false
           → let y = run m cs (m .next call x) in let put = putBytes (c .channel) (events m cs (m .next call x)) in
           (m .outcome close y .effect .status ≡ success)
           × ((ds : List Call) → let es = events m ds (m .next close y) in LeavesAll s es → Returns text put s (LeavesNameAll s es) (run m ds (m .next close y)))

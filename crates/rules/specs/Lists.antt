@@ -1,4 +1,5 @@
 -- Lists of calls: each finds what the one before left, on disks and on images.
+use mathlib.Core.Bool.{Bool}
 use mathlib.Core.List.{List, [], _∷_}
 use mathlib.Core.Path.{_≡_}
 use Prim.Native.Nat.{ℕ}
@@ -18,10 +19,15 @@ use Rattle.rules.specs.Cio.{Outcome, outcome, ImageOutcome, Asks, cio, c
 use Rattle.rules.specs.Recovery.{Recovered, ImageRecovered, recover, recoverCall}
 use Rattle.rules.specs.Sound.{Sound}
 
--- CIO calls, with any command, channel, direction, name and buffer, and recoveries of any slot
+-- CIO calls, with any command, channel, direction, name and buffer, and recoveries of any slot; each has the notch either way
 pub data Call : Type 0 where
   cioOf : Block → List ℕ → List ℕ → Call
-  recoveryOf : ℕ → Call
+  recoveryOf : Bool → ℕ → Call
+
+-- whether the call has the notch closed
+abbrev pub protectedIn : Call → Bool
+protectedIn (cioOf c text b) = c .protected
+protectedIn (recoveryOf protected s) = protected
 
 -- a disk with its channels
 pub record System : Type 0 where
@@ -63,7 +69,7 @@ module _ (g : Geometry) where
   -- a call on a disk
   unfoldable pub outcomeOf : Call → System → Outcome
   outcomeOf (cioOf c text b) x = cio g (x .disk) (x .table) c text b
-  outcomeOf (recoveryOf s) x = outcome (recovering (recover g (x .disk) s) (x .table)) []
+  outcomeOf (recoveryOf protected s) x = outcome (recovering (recover g (x .disk) protected s) (x .table)) []
 
   -- what it does
   abbrev pub perform : Call → System → Effect
@@ -85,7 +91,7 @@ recoveringOn r t = record { answer = record { status = r .reply .status; count =
 -- a call on an image, as the contracts of the two functions have it
 unfoldable pub outcomeOn : Call → ImageTable → ImageOutcome
 outcomeOn (cioOf c text b) x = cioCall (x .image) (x .table) c text b
-outcomeOn (recoveryOf s) x = recoveringOn (recoverCall (x .image) s) (x .table)
+outcomeOn (recoveryOf protected s) x = recoveringOn (recoverCall (x .image) protected s) (x .table)
 
 -- what it leaves for the next
 abbrev pub afterOn : ImageOutcome → ImageTable

@@ -1,4 +1,5 @@
 -- The header's writer: the first 16 bytes of a lent image of either ATR length.
+use mathlib.Core.Bool.{Bool, not, _||_}
 use mathlib.Core.List.{List, _++_}
 use Prim.Native.Nat.{ℕ}
 use lib.Dec.{eqb}
@@ -8,7 +9,7 @@ use Rattle.rules.specs.declared.Reply.{Reply}
 use Rattle.layout.specs.Basics.{check, valuesFrom}
 use Rattle.layout.specs.Image.{atrSingle, atrDouble, geometryOf}
 use Rattle.layout.specs.Header.{headerByte}
-use Rattle.layout.specs.Status.{success, badImage}
+use Rattle.layout.specs.Status.{success, badImage, writeProtected}
 
 -- what writing the header answers, and the image after it
 pub record HeaderOutcome : Type 0 where
@@ -27,9 +28,12 @@ headerBytes m = valuesFrom (headerByte m) 16 0
 unfoldable pub withHeader : Medium → List ℕ → List ℕ
 withHeader m l = headerBytes m ++ drop 16 l
 
--- by the image's length alone: 203 for any other, a raw image's too. It does not look at the old header
-unfoldable pub headerCall : List ℕ → HeaderOutcome
-headerCall l =
-    check (eqb (length l) (geometryOf atrSingle .total)) (headerOutcome success (withHeader atrSingle l)) λ _.
-    check (eqb (length l) (geometryOf atrDouble .total)) (headerOutcome success (withHeader atrDouble l)) λ _.
-    headerOutcome badImage l
+-- by the image's length alone: 203 for any other, a raw image's too, then 144. It does not look at the old header
+unfoldable pub headerCall : List ℕ → Bool → HeaderOutcome
+headerCall l protected =
+    let single = eqb (length l) (geometryOf atrSingle .total) in
+    let double = eqb (length l) (geometryOf atrDouble .total) in
+    check (not (single || double)) (headerOutcome badImage l) λ _.
+    check protected (headerOutcome writeProtected l) λ _.
+    check single (headerOutcome success (withHeader atrSingle l)) λ _.
+    headerOutcome success (withHeader atrDouble l)

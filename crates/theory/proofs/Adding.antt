@@ -88,7 +88,7 @@ module _ (g : Geometry) (d : Disk) where
       let m = o .most in
       record { few = omega arith; idle = o .idle; end = λ x q e k v u l. let (h, i) : (s ≡ x) × (p ≡ q) = (cc, cc) in o .beside k (record { volume = v; slots = rw h u; last = rw i l }) }
 
-  pub put-leaves : {st : State} {b : List ℕ} {o : PutOutcome} → PutEnds g d b st o → Leaves st d b o
+  pub put-leaves : {protected : Bool} {st : State} {b : List ℕ} {o : PutOutcome} → PutEnds g d protected b st o → Leaves st d b o
   put-leaves {b = b} (put-refuses st n w m) = none n st b
   put-leaves {b = b} (put-none s p q) = none _ (Writing s p) b
-  put-leaves {b = b} (put-some s p n q r) = adds-leave s p b
+  put-leaves {b = b} (put-some s p u n q r) = adds-leave s p b

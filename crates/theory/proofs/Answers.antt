@@ -64,11 +64,11 @@ module _ (g : Geometry) (d : Disk) where
   get-answers (get-none s k o l p) = refl
   get-answers {b = b} (get-some s k o l n p) = by-get-from g (Among getAnswers) refl refl refl d s _ 0 _ b
 
-  put-answers : {st : State} {b : List ℕ} {o : PutOutcome} → PutEnds g d b st o → Among putAnswers (o .answer .status)
+  put-answers : {protected : Bool} {st : State} {b : List ℕ} {o : PutOutcome} → PutEnds g d protected b st o → Among putAnswers (o .answer .status)
   unfolding puts member
   put-answers (put-refuses st n w m) = m
   put-answers (put-none s p q) = refl
-  put-answers {b = b} (put-some s p n q r) = by-put-from g (Among putAnswers) refl refl b d s p 0
+  put-answers {b = b} (put-some s p u n q r) = by-put-from g (Among putAnswers) refl refl b d s p 0
 
   call-answers : {t : Table} {k : Kind} {c : Call} {o : Outcome} → Ends g d t k c o → Among (answersTo c) (o .effect .status)
   unfolding commandAnswers openAnswers check member
@@ -91,9 +91,9 @@ module _ (g : Geometry) (d : Disk) where
   call-answers (formats h) = rw (answers-are _ _ (h .ready .on)) refl
   call-answers (restores s h) = refl
 
-  sector-answers : (device unit command k : ℕ) (b : List ℕ) → Among sectorAnswers (sector g d device unit command k b .reply .status)
+  sector-answers : (protected : Bool) (device unit command k : ℕ) (b : List ℕ) → Among sectorAnswers (sector g d protected device unit command k b .reply .status)
   unfolding sector member
-  sector-answers device unit command k b = by-check P _ _ _ (λ _. refl) λ _. by-check P _ _ _ (λ _. refl) λ _. by-check P _ _ _ (λ _. refl) λ _. by-check P _ _ _ (λ _. refl) λ _. refl
+  sector-answers protected device unit command k b = by-check P _ _ _ (λ _. refl) λ _. by-check P _ _ _ (λ _. refl) λ _. by-check P _ _ _ (λ _. refl) λ _. by-check P _ _ _ (λ _. refl) λ _. by-check P _ _ _ (λ _. refl) λ _. refl
     where
       P : SectorOutcome → Type 0
       P o = Among sectorAnswers (o .reply .status)
@@ -103,16 +103,16 @@ pub all-answers : (l : List ℕ) (m : Medium) → servedAs l ≡ As m → Answer
 unfolding outcomeOf
 all-answers l m w = let g = geometryOf m in let d = view g l in record {
   calls = λ t c text b. rw (cio-on l m w t c text b) (call-answers g d (ends g (cioOf c text b) (record { disk = d; table = t })));
-  recoveries = λ s. rw (recover-on l m w s) (call-answers g d (ends g (recoveryOf s) (record { disk = d; table = freshTable })));
-  sectors = λ device unit command k b. rw (sector-on l m w device unit command k b) (sector-answers g d device unit command k b);
+  recoveries = λ protected s. rw (recover-on l m w protected s) (call-answers g d (ends g (recoveryOf protected s) (record { disk = d; table = freshTable })));
+  sectors = λ protected device unit command k b. rw (sector-on l m w protected device unit command k b) (sector-answers g d protected device unit command k b);
   thinGets = λ c b. rw (thin-get-on l m w c b) (get-answers g d (get-ends g d (c .state) b));
-  thinPuts = λ c b. rw (thin-put-on l m w c b) (put-answers g d (put-ends g d (c .state) b));
+  thinPuts = λ protected c b. rw (thin-put-on l m w protected c b) (put-answers g d (put-ends g d protected (c .state) b));
 }
 
 -- nor does the header's writer
-pub header-answers : (l : List ℕ) → member (headerCall l .reply .status) headerAnswers ≡ true
+pub header-answers : (l : List ℕ) (protected : Bool) → member (headerCall l protected .reply .status) headerAnswers ≡ true
 unfolding headerCall member
-header-answers l = by-check P _ _ _ (λ _. refl) λ _. by-check P _ _ _ (λ _. refl) λ _. refl
+header-answers l protected = by-check P _ _ _ (λ _. refl) λ _. by-check P _ _ _ (λ _. refl) λ _. by-check P _ _ _ (λ _. refl) λ _. refl
   where
     P : HeaderOutcome → Type 0
     P o = Among headerAnswers (o .reply .status)

@@ -20,7 +20,7 @@ use Rattle.layout.specs.Image.{Disk, Geometry}
 use Rattle.layout.specs.Directory.{find}
 use Rattle.layout.specs.Channels.{channel, stateOf, withState, openAt, anyOpen, holds, holdsAt, heldByChannel, held}
 use Rattle.layout.specs.Names.{readName, oldName}
-use Rattle.layout.specs.Status.{success}
+use Rattle.layout.specs.Status.{success, writeProtected}
 use Rattle.layout.proofs.Channels.{state-other, Holding, reads, writes, holding, holds-open}
 use Rattle.layout.proofs.Search.{any-at}
 use Rattle.rules.specs.Cio.{Outcome, Asks}
@@ -33,16 +33,16 @@ use Rattle.theory.proofs.Stays.{Both}
 use Rattle.theory.proofs.SoundRestore.{held-stands}
 use Rattle.theory.proofs.Keeps.{call-keeps}
 
--- the call does not close channel i, and is no get from it while it reads and no put on it while it writes
-pub record Quiet (i : ℕ) (c : Block) (t : Table) : Type 0 where
-  pub closes : Asks c Close → c .channel ≢ i
+-- the call, which answered this, does not close channel i: a close of it answered 144; and it is no get from it while it reads and no put on it while it writes
+pub record Quiet (i : ℕ) (c : Block) (t : Table) (status : ℕ) : Type 0 where
+  pub closes : Asks c Close → c .channel ≡ i → status ≡ writeProtected
   pub gets : Asks c (Moves Get) → c .channel ≡ i → (s k o l : ℕ) → stateOf t i ≢ Reading s k o l
   pub puts : Asks c (Moves Put) → c .channel ≡ i → (s p : ℕ) → stateOf t i ≢ Writing s p
 
 -- a recovery is quiet on every channel
-abbrev pub QuietCall : ℕ → Call → Table → Type 0
-QuietCall i (cioOf c text b) t = Quiet i c t
-QuietCall i (recoveryOf s) t = Unit {0}
+abbrev pub QuietCall : ℕ → Call → Table → ℕ → Type 0
+QuietCall i (cioOf c text b) t status = Quiet i c t status
+QuietCall i (recoveryOf protected s) t status = Unit {0}
 
 -- a call that is quiet on an open channel leaves its state
 module _ (g : Geometry) (d : Disk) (t : Table) (i : ℕ) (v : openAt t i ≡ true) where
@@ -54,15 +54,15 @@ module _ (g : Geometry) (d : Disk) (t : Table) (i : ℕ) (v : openAt t i ≡ tru
   shut : {j : ℕ} → openAt t j ≡ false → j ≢ i
   shut h e = true≢false (sym v ∙ ap (openAt t) (sym e) ∙ h)
 
-  ends-state : {k : Kind} {c : Call} {o : Outcome} → Ends g d t k c o → QuietCall i c t → stateOf (o .effect .table) i ≡ stateOf t i
+  ends-state : {k : Kind} {c : Call} {o : Outcome} → Ends g d t k c o → QuietCall i c t (o .effect .status) → stateOf (o .effect .table) i ≡ stateOf t i
   ends-state (refuses n w m) q = refl
   ends-state (reads s k o l h) q = other _ (λ e. q .gets (h .on .command) e s k o l (ap (stateOf t) (sym e) ∙ h .state))
   ends-state (reads-none o e) q = refl
   ends-state (writes s p h) q = other _ (λ e. q .puts (h .on .command) e s p (ap (stateOf t) (sym e) ∙ h .state))
   ends-state (writes-none o e) q = refl
-  ends-state (frees o h) q = other _ (q .closes (o .command))
-  ends-state (closes s p h e) q = other _ (q .closes (h .on .command))
-  ends-state (drops s p h e) q = other _ (q .closes (h .on .command))
+  ends-state (frees o h) q = other _ (λ e. let n = q .closes (o .command) e in omega arith)
+  ends-state (closes s p h e) q = other _ (λ e. let n = q .closes (h .on .command) e in omega arith)
+  ends-state (drops s p h e) q = other _ (λ e. let n = q .closes (h .on .command) e in omega arith)
   ends-state (opens s h) q = other _ (shut (h .ready .shut))
   ends-state (rewrites s h) q = other _ (shut (h .ready .shut))
   ends-state (makes s h) q = other _ (shut (h .ready .shut))
@@ -144,10 +144,10 @@ module _ (g : Geometry) (roomy : 0 < g .room) (y : System) (a : Sound g (y .disk
   abbrev t : Table
   t = y .table
 
-  pub quiet-state : (c : Call) → QuietCall i c t → stateOf (perform g c y .table) i ≡ stateOf t i
+  pub quiet-state : (c : Call) → QuietCall i c t (perform g c y .status) → stateOf (perform g c y .table) i ≡ stateOf t i
   quiet-state c q = ends-state g d t i (is-open g d t a i z x h) (ends g c y) q
 
-  pub quiet-keeps : (c : Call) → QuietCall i c t → Both g d (perform g c y .disk) x
+  pub quiet-keeps : (c : Call) → QuietCall i c t (perform g c y .status) → Both g d (perform g c y .disk) x
   unfolding outcomeOf
   quiet-keeps (cioOf c text b) q =
       let (p, n) = call-keeps g roomy (cioOf c text b) y a x (held-stands g d t a x i z h) (record {
@@ -157,4 +157,4 @@ module _ (g : Geometry) (roomy : 0 < g .room) (y : System) (a : Sound g (y .disk
         formats = λ m. no-format g d t a i z x h (ends-as g d t c text b _ m);
       }) in
       (p, n (λ m k. no-rename g d t a i z x h (ends-as g d t c text b _ m) k))
-  quiet-keeps (recoveryOf s) q = let (p, n) = call-keeps g roomy (recoveryOf s) y a x (held-stands g d t a x i z h) tt in (p, n tt)
+  quiet-keeps (recoveryOf protected s) q = let (p, n) = call-keeps g roomy (recoveryOf protected s) y a x (held-stands g d t a x i z h) tt in (p, n tt)

@@ -17,7 +17,7 @@ use Rattle.layout.specs.Channels.{stateOf, openAt}
 use Rattle.layout.specs.Names.{nameByte, readName}
 use Rattle.layout.specs.Status.{success}
 use Rattle.rules.specs.Cio.{Outcome, Asks}
-use Rattle.rules.specs.Lists.{Call, cioOf, System, after, perform, outcomeOf, run, events, disks}
+use Rattle.rules.specs.Lists.{Call, cioOf, protectedIn, System, after, perform, outcomeOf, run, events, disks}
 use Rattle.rules.specs.Sound.{Stands, Sound}
 use Rattle.rules.specs.Demand2.{Finds, WritesTo, AtStart, On, StaysOpen, LeavesAll, LeavesNameAll, putBytes, DeliveredOver, Returns, DiskDemand2}
 use Rattle.rules.proofs.Acts.{asks, Ends, refuses, opens, rewrites, makes}
@@ -63,7 +63,7 @@ module _ (g : Geometry) (x : System) (a : Sound g (x .disk) (x .table)) (c : Blo
       let (word, extension, q, r) = k in
       let v = find-at d (nameByte word extension) s r .0 in
       let p = plain-flag (flag d s) (a .flags s (stands-slot d s v)) (stands-flag d s v) n in
-      rw (does-open g d t c text b s (record { ready = record { on = record { small = z; command = m }; shut = f }; direction = e; told = record { word = word; extension = extension; read = q }; at = r; quiet = plain-sound (flag d s) p .3 }))
+      rw (does-open g d t c text b s (record { ready = record { on = record { small = z; command = m }; shut = f; permitted = rw e }; direction = e; told = record { word = word; extension = extension; read = q }; at = r; quiet = plain-sound (flag d s) p .3 }))
 
 -- a channel writes one slot
 slot-is : (t : Table) (i x s : ℕ) → WritesTo t i x → WritesTo t i s → x ≡ s
@@ -106,20 +106,20 @@ module _ (g : Geometry) (roomy : 0 < g .room) where
     }
 
   whole : (x : System) → Sound g (x .disk) (x .table) → (c : Block) (text b : List ℕ) → Asks c (Files Open) → c .direction ≡ 8 → let call = cioOf c text b in perform g call x .status ≡ success
-      → (s : ℕ) → WritesTo (perform g call x .table) (c .channel) s → (cs : List Call) → StaysOpen (c .channel) cs → (close : Call) → On (c .channel) Close close
+      → (s : ℕ) → WritesTo (perform g call x .table) (c .channel) s → (cs : List Call) → StaysOpen (c .channel) (events (disks g) cs (after (perform g call x))) → (close : Call) → On (c .channel) Close close → protectedIn close ≡ false
       → let y0 = after (perform g call x) in
       let y1 = run (disks g) cs y0 in
       let y2 = after (perform g close y1) in
       (perform g close y1 .status ≡ success)
       × ((ds : List Call) → let es = events (disks g) ds y2 in LeavesAll s es → Returns g (disks g) text (putBytes (c .channel) (events (disks g) cs y0)) s (LeavesNameAll s es) (run (disks g) ds y2))
-  whole x a c text b m n h s w cs ns close q =
+  whole x a c text b m n h s w cs ns close q u =
       let call = cioOf c text b in
       let y0 = after (perform g call x) in
       let a0 = call-sound g roomy call x a in
       let o = opened-output g x a c text b m n h in
       let e : o .slot ≡ s = slot-is (y0 .table) (c .channel) (o .slot) s (o .writes) w in
       let p = put-calls g roomy y0 a0 (c .channel) s (o .small) w cs ns in
-      let (done, kept, name, closed) = p .closes close q in
+      let (done, kept, name, closed) = p .closes close q u in
       let y1 = run (disks g) cs y0 in
       let a1 = call-sound g roomy close y1 (calls-sound g roomy cs y0 a0) in
       let y2 = after (perform g close y1) in

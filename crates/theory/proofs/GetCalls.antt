@@ -16,7 +16,7 @@ use Rattle.layout.specs.Image.{Disk, Geometry}
 use Rattle.layout.specs.Directory.{count}
 use Rattle.layout.specs.File.{chain, file}
 use Rattle.layout.specs.Channels.{stateOf}
-use Rattle.layout.specs.Status.{success, endOfFile}
+use Rattle.layout.specs.Status.{success, writeProtected, endOfFile}
 use Rattle.rules.specs.Cio.{Outcome}
 use Rattle.rules.specs.Lists.{Call, cioOf, recoveryOf, System, after, perform, run, disks, outcomeOf, events}
 use Rattle.rules.specs.Sound.{Stands, OnPlace, before, on, Sound}
@@ -53,7 +53,7 @@ got-all r b o h e = go (leb (length b) (length r)) refl (sym (h .status) ∙ e)
 
 module _ (g : Geometry) (roomy : 0 < g .room) (i s : ℕ) (z : i < 8) where
   -- a call that is no get from the channel and does not close it
-  quiet-reads : (c : Call) (r : List ℕ) (y : System) → Reads g s r y i → QuietCall i c (y .table) → Reads g s r (after (perform g c y)) i × Both g (y .disk) (perform g c y .disk) s
+  quiet-reads : (c : Call) (r : List ℕ) (y : System) → Reads g s r y i → QuietCall i c (y .table) (perform g c y .status) → Reads g s r (after (perform g c y)) i × Both g (y .disk) (perform g c y .disk) s
   quiet-reads c r y h q =
       let m = reads-holds (stateOf (y .table) i) s (h .sector) (h .offset) (h .left) (h .reads) in
       let (p, n) = quiet-keeps g roomy y (h .sound) i z s m c q in
@@ -83,9 +83,9 @@ module _ (g : Geometry) (roomy : 0 < g .room) (i s : ℕ) (z : i < 8) where
   stands : (r : List ℕ) (y : System) → Reads g s r y i → Stands (y .disk) s
   stands r y h = h .sound .reading i s (h .sector) (h .offset) (h .left) z (h .reads) .0
 
-  call-reads : (c : Call) → (On i Close c → ⊥) → (r : List ℕ) (y : System) → Reads g s r y i → Leaves c r y
+  call-reads : (c : Call) (r : List ℕ) (y : System) → (On i Close c → perform g c y .status ≡ writeProtected) → Reads g s r y i → Leaves c r y
   unfolding gotBy
-  call-reads (cioOf c text b) n r y h = go (got-moving i c text b (take (o .effect .count) (o .buffer))) refl
+  call-reads (cioOf c text b) r y n h = go (got-moving i c text b (take (o .effect .count) (o .buffer))) refl
     where
       call : Call
       call = cioOf c text b
@@ -100,7 +100,7 @@ module _ (g : Geometry) (roomy : 0 < g .room) (i s : ℕ) (z : i < 8) where
       go (rests f) e =
           let (p, q) = quiet-reads call r y h (record { closes = λ m k. n (k, m); gets = λ m k x p o l _. f (k, m); puts = λ _ _ x p. not-writing y r h x p }) in
           record { left = r; begins = rw e; reads = p; both = q }
-  call-reads (recoveryOf x) n r y h = let (p, q) = quiet-reads (recoveryOf x) r y h tt in record { left = r; begins = refl; reads = p; both = q }
+  call-reads (recoveryOf protected x) r y n h = let (p, q) = quiet-reads (recoveryOf protected x) r y h tt in record { left = r; begins = refl; reads = p; both = q }
 
   -- and after any list that does not close the channel
   record LeavesAll (cs : List Call) (r : List ℕ) (y : System) : Type 0 where
@@ -109,12 +109,12 @@ module _ (g : Geometry) (roomy : 0 < g .room) (i s : ℕ) (z : i < 8) where
     reads : Reads g s left (run (disks g) cs y) i
     both : Both g (y .disk) (run (disks g) cs y .disk) s
 
-  calls-read : (cs : List Call) → StaysOpen i cs → (r : List ℕ) (y : System) → Reads g s r y i → LeavesAll cs r y
+  calls-read : (cs : List Call) (r : List ℕ) (y : System) → StaysOpen i (events (disks g) cs y) → Reads g s r y i → LeavesAll cs r y
   unfolding gotBytes run events
-  calls-read [] n r y h = record { left = r; begins = refl; reads = h; both = both-none g (y .disk) s (stands r y h) }
-  calls-read (c ∷ cs) (n, ns) r y h =
-      let p = call-reads c n r y h in
-      let q = calls-read cs ns (p .left) (after (perform g c y)) (p .reads) in
+  calls-read [] r y n h = record { left = r; begins = refl; reads = h; both = both-none g (y .disk) s (stands r y h) }
+  calls-read (c ∷ cs) r y (n, ns) h =
+      let p = call-reads c r y n h in
+      let q = calls-read cs (p .left) (after (perform g c y)) ns (p .reads) in
       record {
         left = q .left;
         begins = p .begins ∙ ap (λ l. gotBy i c (outcomeOf g c y) ++ l) (q .begins) ∙ sym (append-assoc (gotBy i c (outcomeOf g c y)) (gotBytes i (events (disks g) cs (after (perform g c y)))) (q .left));
@@ -122,11 +122,11 @@ module _ (g : Geometry) (roomy : 0 < g .room) (i s : ℕ) (z : i < 8) where
         both = both-join g (y .disk) (perform g c y .disk) (run (disks g) cs (after (perform g c y)) .disk) s (p .both) (q .both);
       }
 
-pub get-calls : (g : Geometry) → 0 < g .room → (y : System) → Sound g (y .disk) (y .table) → (i s : ℕ) → i < 8 → AtStart y i s → (cs : List Call) → StaysOpen i cs → DeliveredOver g (disks g) (file g (y .disk) s) y i s cs
+pub get-calls : (g : Geometry) → 0 < g .room → (y : System) → Sound g (y .disk) (y .table) → (i s : ℕ) → i < 8 → AtStart y i s → (cs : List Call) → StaysOpen i (events (disks g) cs y) → DeliveredOver g (disks g) (file g (y .disk) s) y i s cs
 unfolding gotBy
 get-calls g roomy y a i s z e cs n =
     let x = run (disks g) cs y in
-    let h = calls-read g roomy i s z cs n (file g (y .disk) s) y (record { sound = a; sector = 0; offset = 0; left = count (y .disk) s; reads = e; bytes = rest-before g (y .disk) s 0 0 refl }) in
+    let h = calls-read g roomy i s z cs (file g (y .disk) s) y n (record { sound = a; sector = 0; offset = 0; left = count (y .disk) s; reads = e; bytes = rest-before g (y .disk) s 0 0 refl }) in
     let p = h .reads in
     record {
       reads = (p .sector, p .offset, p .left, p .reads);

@@ -1,13 +1,14 @@
 -- The header written: the image is then served by it, and every sector is as it was.
-use mathlib.Core.Bool.{true}
+use mathlib.Core.Bool.{true, false, _||_}
 use mathlib.Core.List.{List}
 use mathlib.Core.Path.{_≡_, refl, sym, ap, _∙_}
 use Prim.Native.Nat.{ℕ, _+_, _-_, _≤_, _<_}
 use native.Mathlib.Decide.{decLt}
 use native.Mathlib.Omega.{arith}
+use lib.Dec.{eqb}
 use lib.ListN.{length, getD, drop, length-append, length-drop}
 use lib.Seq.{getD-append-add, getD-drop}
-use borrow.Author.Tests.{eqb-true}
+use borrow.Author.Tests.{eqb-true, not-false}
 use Rattle.layout.specs.declared.density.Medium.{Medium}
 use Rattle.layout.specs.Basics.{allBelow, valuesFrom}
 use Rattle.layout.specs.Image.{Geometry, atrSingle, atrDouble, geometryOf, view}
@@ -66,13 +67,18 @@ double-agrees : (l : List ℕ) → agrees atrDouble (withHeader atrDouble l) ≡
 unfolding agrees sameHeader allBelow withHeader headerBytes headerByte units valuesFrom
 double-agrees l = refl
 
+-- the other of the two lengths
+is-double : (n : ℕ) → (eqb n 92176 || eqb n 183952) ≡ true → eqb n 92176 ≡ false → n ≡ 183952
+is-double n p q = eqb-true n 183952 (rw q at p)
+
 pub header-calls : HeaderCalls
 unfolding headerCall
-header-calls l = by-check P _ _ _
+header-calls l protected =
+    by-check P _ _ _ (λ _ e. absurd (omega arith)) λ a.
+    by-check P _ _ _ (λ _ e. absurd (omega arith)) λ _.
+    by-check P _ _ _
     (λ q _. let n = eqb-true (length l) 92176 q in headed atrSingle l (omega arith) refl (isSingle refl (same-length atrSingle l (omega arith) ∙ n) (single-agrees l)))
-    λ _. by-check P _ _ _
-    (λ q _. let n = eqb-true (length l) 183952 q in headed atrDouble l (omega arith) refl (isDouble refl (same-length atrDouble l (omega arith) ∙ n) (double-agrees l)))
-    λ _ e. absurd (let z : _≡_ {A = ℕ} 203 1 = e in omega arith)
+    λ q _. let n = is-double (length l) (not-false (eqb (length l) 92176 || eqb (length l) 183952) a) q in headed atrDouble l (omega arith) refl (isDouble refl (same-length atrDouble l (omega arith) ∙ n) (double-agrees l))
   where
     P : HeaderOutcome → Type 0
     P o = o .reply .status ≡ success → Headed l (o .image)

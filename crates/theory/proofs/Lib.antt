@@ -55,4 +55,5 @@ pub mod Transfers
 pub mod SectorCalls
 pub mod Shown
 pub mod Demand1
+pub mod Protected
 pub mod Never161

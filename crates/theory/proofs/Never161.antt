@@ -16,7 +16,7 @@ use Rattle.layout.specs.Basics.{member}
 use Rattle.layout.specs.Image.{geometryOf, view}
 use Rattle.layout.specs.Header.{servedAs}
 use Rattle.layout.specs.Channels.{openAt}
-use Rattle.layout.specs.Status.{success, badImage, badHeader, badChannel, badCommand, notServed, channelOpen, channelClosed, writeOnly, readOnly, badDevice, badUnit, badName, badTable, notFound, fileLocked, fileHeld, badChain, nameTaken, noSlot, diskFull, endOfFile, lostChain, noDevice, badRequest, badLength}
+use Rattle.layout.specs.Status.{success, badImage, badHeader, badChannel, badCommand, notServed, channelOpen, channelClosed, writeOnly, readOnly, writeProtected, badDevice, badUnit, badName, badTable, notFound, fileLocked, fileHeld, badChain, nameTaken, noSlot, diskFull, endOfFile, lostChain, noDevice, badRequest, badLength}
 use Rattle.layout.proofs.Check.{check-yes, by-check}
 use Rattle.layout.proofs.Members.{passes, passes-each, member-apart}
 use Rattle.layout.proofs.Search.{all-fails, all-at}
@@ -32,7 +32,7 @@ use Rattle.theory.proofs.Demand1.{demand1}
 -- the numbers that a call can answer, all of them
 unfoldable pub numbers : List ℕ
 numbers =
-    success ∷ badImage ∷ badHeader ∷ badChannel ∷ badCommand ∷ notServed ∷ channelOpen ∷ channelClosed ∷ writeOnly ∷ readOnly ∷ badDevice ∷ badUnit ∷ badName ∷ badTable ∷ notFound ∷ fileLocked ∷ fileHeld ∷ badChain ∷ nameTaken ∷ noSlot ∷ diskFull ∷ endOfFile ∷ lostChain ∷ noDevice ∷ badRequest ∷ badLength ∷ []
+    success ∷ badImage ∷ badHeader ∷ badChannel ∷ badCommand ∷ notServed ∷ channelOpen ∷ channelClosed ∷ writeOnly ∷ readOnly ∷ writeProtected ∷ badDevice ∷ badUnit ∷ badName ∷ badTable ∷ notFound ∷ fileLocked ∷ fileHeld ∷ badChain ∷ nameTaken ∷ noSlot ∷ diskFull ∷ endOfFile ∷ lostChain ∷ noDevice ∷ badRequest ∷ badLength ∷ []
 
 -- all of a list's numbers are among them
 abbrev Within : List ℕ → Type 0
@@ -78,11 +78,11 @@ module _ (Q : ℕ → Type 0) (q : (n : ℕ) → member n numbers ≡ true → Q
   unfolding passes member numbers
   every-status = record {
     calls = λ l t c text b. on-any l (answers c) (answers-within c) (λ a. a .calls t c text b) (λ n u. u .calls t c text b);
-    recoveries = λ l s. on-any l recoveryAnswers refl (λ a. a .recoveries s) (λ n u. u .recoveries s);
-    sectors = λ l device unit command k b. on-any l sectorAnswers refl (λ a. a .sectors device unit command k b) (λ n u. u .sectors device unit command k b);
+    recoveries = λ l protected s. on-any l recoveryAnswers refl (λ a. a .recoveries protected s) (λ n u. u .recoveries protected s);
+    sectors = λ l protected device unit command k b. on-any l sectorAnswers refl (λ a. a .sectors protected device unit command k b) (λ n u. u .sectors protected device unit command k b);
     thinGets = λ l c b. on-any l getAnswers refl (λ a. a .thinGets c b) (λ n u. u .thinGets c b);
-    thinPuts = λ l c b. on-any l putAnswers refl (λ a. a .thinPuts c b) (λ n u. u .thinPuts c b);
-    headers = λ l. of headerAnswers refl (demand1 .headers l);
+    thinPuts = λ l protected c b. on-any l putAnswers refl (λ a. a .thinPuts protected c b) (λ n u. u .thinPuts protected c b);
+    headers = λ l protected. of headerAnswers refl (demand1 .headers l protected);
   }
 
 -- where all eight channels are open, so is the one that a command names

@@ -34,7 +34,7 @@ module _ (m : Medium) where
   outcome-on : (c : Call) (x : ImageTable) → IsServed m x → outcomeOn c x ≡ leaves g (x .image) (outcomeOf g c (systemOf g x))
   unfolding outcomeOn outcomeOf
   outcome-on (cioOf c text b) x w = cio-on (x .image) m w (x .table) c text b
-  outcome-on (recoveryOf s) x w = ap (λ r. recoveringOn r (x .table)) (recover-on (x .image) m w s)
+  outcome-on (recoveryOf protected s) x w = ap (λ r. recoveringOn r (x .table)) (recover-on (x .image) m w protected s)
 
   module _ (c : Call) (x : ImageTable) (w : IsServed m x) where
     abbrev e : Effect

@@ -14,7 +14,7 @@ use Rattle.layout.specs.Image.{Geometry}
 use Rattle.layout.specs.Directory.{name}
 use Rattle.layout.specs.File.{file}
 use Rattle.layout.specs.Channels.{stateOf}
-use Rattle.layout.specs.Status.{success}
+use Rattle.layout.specs.Status.{success, writeProtected}
 use Rattle.rules.specs.Cio.{Asks}
 use Rattle.rules.specs.Lists.{Call, cioOf, recoveryOf, System, after, perform, run, disks, outcomeOf, events}
 use Rattle.rules.specs.Sound.{Sound}
@@ -27,13 +27,13 @@ use Rattle.theory.proofs.SoundChange.{writes-holds}
 use Rattle.theory.proofs.SoundCalls.{call-sound}
 use Rattle.theory.proofs.Writer.{Written, writer}
 use Rattle.theory.proofs.Moving.{Moving, moves, rests, moving-all, put-moving}
-use Rattle.theory.proofs.Written.{open-written, put-either, put-call}
-use Rattle.theory.proofs.Shut.{close-call, find-is}
+use Rattle.theory.proofs.Written.{open-written, put-answers, put-call}
+use Rattle.theory.proofs.Shut.{close-call, close-stays, find-is}
 use Rattle.theory.proofs.Channel.{QuietCall, quiet-state, quiet-keeps}
 
 module _ (g : Geometry) (roomy : 0 < g .room) (i s : ℕ) (z : i < 8) (w : ℕ → ℕ) where
   -- a call that is no put on the channel and does not close it
-  quiet-written : (c : Call) (r : List ℕ) (y : System) → Written g i s w r y → QuietCall i c (y .table) → Written g i s w r (after (perform g c y))
+  quiet-written : (c : Call) (r : List ℕ) (y : System) → Written g i s w r y → QuietCall i c (y .table) (perform g c y .status) → Written g i s w r (after (perform g c y))
   quiet-written c r y h q =
       let m = writes-holds (stateOf (y .table) i) s (h .last) (h .writes) in
       let (p, n) = quiet-keeps g roomy y (h .sound) i z s m c q in
@@ -49,9 +49,9 @@ module _ (g : Geometry) (roomy : 0 < g .room) (i s : ℕ) (z : i < 8) (w : ℕ �
   not-reading : (y : System) (r : List ℕ) → Written g i s w r y → (x k o l : ℕ) → stateOf (y .table) i ≡ Reading x k o l → ⊥
   not-reading y r h x k o l e = let f = h .writes in let v : _≡_ {A = ℕ} 0 1 = cc in omega arith
 
-  call-written : (c : Call) → (On i Close c → ⊥) → (r : List ℕ) (y : System) → Written g i s w r y → Written g i s w (r ++ putBy i c (outcomeOf g c y)) (after (perform g c y))
+  call-written : (c : Call) (r : List ℕ) (y : System) → (On i Close c → perform g c y .status ≡ writeProtected) → Written g i s w r y → Written g i s w (r ++ putBy i c (outcomeOf g c y)) (after (perform g c y))
   unfolding putBy
-  call-written (cioOf c text b) n r y h = go (put-moving i c text b (take (perform g call y .count) b))
+  call-written (cioOf c text b) r y n h = go (put-moving i c text b (take (perform g call y .count) b))
     where
       call : Call
       call = cioOf c text b
@@ -59,12 +59,12 @@ module _ (g : Geometry) (roomy : 0 < g .room) (i s : ℕ) (z : i < 8) (w : ℕ �
       go : {l : List ℕ} → Moving (On i (Moves Put) call) (take (perform g call y .count) b) l → Written g i s w (r ++ l) (after (perform g call y))
       go (moves q) = put-call g roomy i s z w r y h call q .0
       go (rests f) = rw append-nil (quiet-written call r y h (record { closes = λ e k. n (k, e); gets = λ e k x p o l. not-reading y r h x p o l; puts = λ e k x p _. f (k, e) }))
-  call-written (recoveryOf x) n r y h = rw append-nil (quiet-written (recoveryOf x) r y h tt)
+  call-written (recoveryOf protected x) r y n h = rw append-nil (quiet-written (recoveryOf protected x) r y h tt)
 
-  calls-written : (cs : List Call) → StaysOpen i cs → (r : List ℕ) (y : System) → Written g i s w r y → Written g i s w (r ++ putBytes i (events (disks g) cs y)) (run (disks g) cs y)
+  calls-written : (cs : List Call) (r : List ℕ) (y : System) → StaysOpen i (events (disks g) cs y) → Written g i s w r y → Written g i s w (r ++ putBytes i (events (disks g) cs y)) (run (disks g) cs y)
   unfolding putBytes run events
-  calls-written [] n r y h = rw append-nil h
-  calls-written (c ∷ cs) (n, ns) r y h = rw append-assoc at (calls-written cs ns (r ++ putBy i c (outcomeOf g c y)) (after (perform g c y)) (call-written c n r y h))
+  calls-written [] r y n h = rw append-nil h
+  calls-written (c ∷ cs) r y (n, ns) h = rw append-assoc at (calls-written cs (r ++ putBy i c (outcomeOf g c y)) (after (perform g c y)) ns (call-written c r y n h))
 
 -- an open for output that answers 1
 pub opened-output : (g : Geometry) (x : System) → Sound g (x .disk) (x .table) → (c : Block) (text b : List ℕ) → Asks c (Files Open) → c .direction ≡ 8
@@ -85,17 +85,18 @@ opened-output g x a c text b e f o =
     }
 
 -- any calls that do not close it
-pub put-calls : (g : Geometry) → 0 < g .room → (y : System) → Sound g (y .disk) (y .table) → (i s : ℕ) → i < 8 → WritesTo (y .table) i s → (cs : List Call) → StaysOpen i cs → StoredOver g (disks g) y i s cs
+pub put-calls : (g : Geometry) → 0 < g .room → (y : System) → Sound g (y .disk) (y .table) → (i s : ℕ) → i < 8 → WritesTo (y .table) i s → (cs : List Call) → StaysOpen i (events (disks g) cs y) → StoredOver g (disks g) y i s cs
 unfolding putBy
 put-calls g roomy y a i s z (p, e) cs n = record {
   writes = (h .last, h .writes);
   stands = writer g (x .disk) (x .table) (h .sound) i s (h .last) z (h .writes) .stands;
   bytes = h .bytes;
   named = h .named;
-  next = put-either g roomy i s z w _ x h;
+  next = put-answers g roomy i s z w _ x h;
   whole = λ c text b q k. moving-all (put-moving i c text b (take (perform g (cioOf c text b) x .count) b)) q ∙ rw (put-call g roomy i s z w _ x h (cioOf c text b) q .1 k) (take-length b);
-  closes = λ c q.
-      let (k, u) = close-call g i s z w (file g (y .disk) s ++ putBytes i (events (disks g) cs y)) x h c q in
+  stays = close-stays g i s z w _ x h;
+  closes = λ c q o.
+      let (k, u) = close-call g i s z w (file g (y .disk) s ++ putBytes i (events (disks g) cs y)) x h c q o in
       (k, record { stands = u .stands; bytes = u .bytes ∙ sym (h .bytes) }, u .named, u .flagged);
 }
   where
@@ -106,4 +107,4 @@ put-calls g roomy y a i s z (p, e) cs n = record {
     x = run (disks g) cs y
 
     h : Written g i s w (file g (y .disk) s ++ putBytes i (events (disks g) cs y)) x
-    h = calls-written g roomy i s z w cs n (file g (y .disk) s) y (record { sound = a; last = p; writes = e; named = bytes-same (y .disk) s w (λ j l. refl); bytes = refl })
+    h = calls-written g roomy i s z w cs (file g (y .disk) s) y n (record { sound = a; last = p; writes = e; named = bytes-same (y .disk) s w (λ j l. refl); bytes = refl })

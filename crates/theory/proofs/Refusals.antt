@@ -1,5 +1,5 @@
 -- Demand 1: a refused call reports no bytes and changes nothing, but for the partial transfers.
-use mathlib.Core.Bool.{true, true≢false}
+use mathlib.Core.Bool.{Bool, true, true≢false}
 use mathlib.Core.List.{List}
 use mathlib.Core.Logic.{_≢_}
 use mathlib.Core.Path.{_≡_, refl, sym, _∙_}
@@ -81,15 +81,15 @@ module _ (g : Geometry) (d : Disk) where
   get-kept (get-none s k o l p) h = (refl, refl, refl)
   get-kept {b = b} (get-some s k o l n p) h = bytes-read g d s _ _ b h
 
-  put-kept : {st : State} {b : List ℕ} {o : PutOutcome} → PutEnds g d b st o → Refusal (Moves Put) (o .answer .status) → PutKept d st o
+  put-kept : {protected : Bool} {st : State} {b : List ℕ} {o : PutOutcome} → PutEnds g d protected b st o → Refusal (Moves Put) (o .answer .status) → PutKept d st o
   unfolding puts
   put-kept (put-refuses st n w m) h = (refl, refl, refl)
   put-kept (put-none s p q) h = (refl, refl, refl)
-  put-kept {b = b} (put-some s p n q r) h = bytes-added g d s p b h
+  put-kept {b = b} (put-some s p u n q r) h = bytes-added g d s p b h
 
-  sector-refused : (device unit command k : ℕ) (b : List ℕ) → sector g d device unit command k b .reply .status ≢ success → SectorKept d b (sector g d device unit command k b)
+  sector-refused : (protected : Bool) (device unit command k : ℕ) (b : List ℕ) → sector g d protected device unit command k b .reply .status ≢ success → SectorKept d b (sector g d protected device unit command k b)
   unfolding sector
-  sector-refused device unit command k b = by-check P _ _ _ (λ _ _. (refl, refl, refl)) λ _. by-check P _ _ _ (λ _ _. (refl, refl, refl)) λ _.
+  sector-refused protected device unit command k b = by-check P _ _ _ (λ _ _. (refl, refl, refl)) λ _. by-check P _ _ _ (λ _ _. (refl, refl, refl)) λ _. by-check P _ _ _ (λ _ _. (refl, refl, refl)) λ _.
       by-check P _ _ _ (λ _ _. (refl, refl, refl)) λ _. by-check P _ _ _ (λ _ h. absurd (h refl)) λ _ h. absurd (h refl)
     where
       P : SectorOutcome → Type 0
@@ -126,14 +126,14 @@ unfolding cioCall recoverCall outcomeOf sectorCall thinGet thinPut headerCall
 refusals = record {
   calls = λ l t c text b. by-served (λ (o : ImageOutcome). Refusal (commandOf (c .command)) (o .answer .status) → Unchanged l t b o) _ _ _
       (λ _ _ _. record { count = refl; image = refl; table = refl; buffer = refl }) (λ m w h. unchanged l m w t b _ (call-kept _ _ (ends (geometryOf m) (cioOf c text b) (record { disk = view (geometryOf m) l; table = t })) h));
-  recoveries = λ l s. by-served (λ (r : ImageRecovered). r .reply .status ≢ success → (r .reply .count ≡ 0) × (r .image ≡ l)) _ _ _ (λ _ _ _. (refl, refl))
-      (λ m w h. let k = call-kept _ _ (ends (geometryOf m) (recoveryOf s) (record { disk = view (geometryOf m) l; table = freshTable })) h in (k .count, kept-image l m w _ (k .disk)));
-  sectors = λ l device unit command k b. by-served (λ (o : ImageSectorOutcome). o .reply .status ≢ success → (o .reply .count ≡ 0) × (o .image ≡ l) × (o .buffer ≡ b)) _ _ _ (λ _ _ _. (refl, refl, refl))
-      (λ m w h. let (n, e, f) = sector-refused (geometryOf m) (view (geometryOf m) l) device unit command k b h in (n, kept-image l m w _ e, f));
+  recoveries = λ l protected s. by-served (λ (r : ImageRecovered). r .reply .status ≢ success → (r .reply .count ≡ 0) × (r .image ≡ l)) _ _ _ (λ _ _ _. (refl, refl))
+      (λ m w h. let k = call-kept _ _ (ends (geometryOf m) (recoveryOf protected s) (record { disk = view (geometryOf m) l; table = freshTable })) h in (k .count, kept-image l m w _ (k .disk)));
+  sectors = λ l protected device unit command k b. by-served (λ (o : ImageSectorOutcome). o .reply .status ≢ success → (o .reply .count ≡ 0) × (o .image ≡ l) × (o .buffer ≡ b)) _ _ _ (λ _ _ _. (refl, refl, refl))
+      (λ m w h. let (n, e, f) = sector-refused (geometryOf m) (view (geometryOf m) l) protected device unit command k b h in (n, kept-image l m w _ e, f));
   thinGets = λ l c b. by-served (λ (o : GetOutcome). Refusal (Moves Get) (o .answer .status) → GetKept (c .state) b o) _ _ _ (λ _ _ _. (refl, refl, refl)) (λ m _. get-kept _ _ (get-ends (geometryOf m) (view (geometryOf m) l) (c .state) b));
-  thinPuts = λ l c b. by-served (λ (o : ImagePutOutcome). Refusal (Moves Put) (o .answer .status) → (o .answer .count ≡ 0) × (o .answer .state ≡ c .state) × (o .image ≡ l)) _ _ _ (λ _ _ _. (refl, refl, refl))
-      (λ m w h. let (n, f, e) = put-kept _ _ (put-ends (geometryOf m) (view (geometryOf m) l) (c .state) b) h in (n, f, kept-image l m w _ e));
-  headers = λ l.
+  thinPuts = λ l protected c b. by-served (λ (o : ImagePutOutcome). Refusal (Moves Put) (o .answer .status) → (o .answer .count ≡ 0) × (o .answer .state ≡ c .state) × (o .image ≡ l)) _ _ _ (λ _ _ _. (refl, refl, refl))
+      (λ m w h. let (n, f, e) = put-kept _ _ (put-ends (geometryOf m) (view (geometryOf m) l) protected (c .state) b) h in (n, f, kept-image l m w _ e));
+  headers = λ l protected.
       let P : HeaderOutcome → Type 0 = λ o. o .reply .status ≢ success → (o .reply .count ≡ 0) × (o .image ≡ l) in
-      by-check P _ _ _ (λ _ h. absurd (h refl)) λ _. by-check P _ _ _ (λ _ h. absurd (h refl)) λ _ _. (refl, refl);
+      by-check P _ _ _ (λ _ _. (refl, refl)) λ _. by-check P _ _ _ (λ _ _. (refl, refl)) λ _. by-check P _ _ _ (λ _ h. absurd (h refl)) λ _ h. absurd (h refl);
 }

@@ -1,5 +1,5 @@
 -- Sector calls: a sector written reads back the same, every other is as it was, and a read changes nothing.
-use mathlib.Core.Bool.{true, false, _&&_, _||_, true≢false}
+use mathlib.Core.Bool.{Bool, true, false, _&&_, _||_, true≢false}
 use mathlib.Core.List.{List, [], _∷_}
 use mathlib.Core.Path.{_≡_, refl, sym, ap, _∙_, subst}
 use Prim.Native.Nat.{ℕ, suc, zero, _+_, _≤_}
@@ -53,11 +53,11 @@ no-write = refl
 
 module _ (g : Geometry) (d : Disk) where
   -- a read of sector k
-  read-is : (k : ℕ) (b : List ℕ) → 1 ≤ k → k ≤ 720 → length b ≡ g .size k → sector g d 0x31 1 0x52 k b ≡ sectorOutcome success (g .size k) d (valuesFrom (d k) (g .size k) 0)
+  read-is : (protected : Bool) (k : ℕ) (b : List ℕ) → 1 ≤ k → k ≤ 720 → length b ≡ g .size k → sector g d protected 0x31 1 0x52 k b ≡ sectorOutcome success (g .size k) d (valuesFrom (d k) (g .size k) 0)
   unfolding sector
-  read-is k b low high n = check-no {A = SectorOutcome} _ _ _ refl ∙ check-no {A = SectorOutcome} _ _ _ (rw (read-request k low high)) ∙ check-no {A = SectorOutcome} _ _ _ (rw (eq-eqb (length b) (g .size k) n)) ∙ check-no {A = SectorOutcome} _ _ _ no-write
+  read-is protected k b low high n = check-no {A = SectorOutcome} _ _ _ refl ∙ check-no {A = SectorOutcome} _ _ _ (rw (read-request k low high)) ∙ check-no {A = SectorOutcome} _ _ _ (rw no-write) ∙ check-no {A = SectorOutcome} _ _ _ (rw (eq-eqb (length b) (g .size k) n)) ∙ check-no {A = SectorOutcome} _ _ _ no-write
 
-  module _ (device unit command k : ℕ) (b : List ℕ) where
+  module _ (protected : Bool) (device unit command k : ℕ) (b : List ℕ) where
     -- what a call that answers 1 has passed
     record Passed (o : SectorOutcome) : Type 0 where
       low : 1 ≤ k
@@ -66,9 +66,9 @@ module _ (g : Geometry) (d : Disk) where
       write : isWrite command ≡ true → o ≡ sectorOutcome success (g .size k) (writeRun d k 0 b) b
       read : isWrite command ≡ false → o ≡ sectorOutcome success (g .size k) d (valuesFrom (d k) (g .size k) 0)
 
-    passed : let o = sector g d device unit command k b in o .reply .status ≡ success → Passed o
+    passed : let o = sector g d protected device unit command k b in o .reply .status ≡ success → Passed o
     unfolding sector
-    passed = by-check P _ _ _ (λ _ h. absurd (omega arith)) λ _. by-check P _ _ _ (λ _ h. absurd (omega arith)) λ r. by-check P _ _ _ (λ _ h. absurd (omega arith)) λ n.
+    passed = by-check P _ _ _ (λ _ h. absurd (omega arith)) λ _. by-check P _ _ _ (λ _ h. absurd (omega arith)) λ r. by-check P _ _ _ (λ _ h. absurd (omega arith)) λ _. by-check P _ _ _ (λ _ h. absurd (omega arith)) λ n.
         let (low, high) = request-sector command k (not-false (isRequest command k) r) in
         let size = eqb-true (length b) (g .size k) (not-false (eqb (length b) (g .size k)) n) in
         by-check P _ _ _ (λ t _. record { low = low; high = high; size = size; write = λ _. refl; read = λ u. absurd (true≢false (sym t ∙ u)) })
@@ -77,9 +77,9 @@ module _ (g : Geometry) (d : Disk) where
         P : SectorOutcome → Type 0
         P o = o .reply .status ≡ success → Passed o
 
-    keeps : isWrite command ≡ false → sector g d device unit command k b .disk ≡ d
+    keeps : isWrite command ≡ false → sector g d protected device unit command k b .disk ≡ d
     unfolding sector
-    keeps n = by-check P _ _ _ (λ _. refl) λ _. by-check P _ _ _ (λ _. refl) λ _. by-check P _ _ _ (λ _. refl) λ _. by-check P _ _ _ (λ w. absurd (true≢false (sym w ∙ n))) λ _. refl
+    keeps n = by-check P _ _ _ (λ _. refl) λ _. by-check P _ _ _ (λ _. refl) λ _. by-check P _ _ _ (λ _. refl) λ _. by-check P _ _ _ (λ _. refl) λ _. by-check P _ _ _ (λ w. absurd (true≢false (sym w ∙ n))) λ _. refl
       where
         P : SectorOutcome → Type 0
         P o = o .disk ≡ d
@@ -104,10 +104,10 @@ module _ (m : Medium) (l : List ℕ) (w : servedAs l ≡ As m) (k : ℕ) (b : Li
   own : valuesFrom (view g l' k) (g .size k) 0 ≡ b
   own = ap (λ (d : Disk). valuesFrom (d k) (g .size k) 0) (held-view l m w e placed) ∙ ap (λ n. valuesFrom (e k) n 0) (sym size) ∙ run-values b D k 0
 
-  back : (b' : List ℕ) → length b' ≡ g .size k → sectorCall l' 0x31 1 0x52 k b' ≡ record { reply = record { status = success; count = g .size k }; image = l'; buffer = b }
-  back b' n =
+  back : (protected : Bool) (b' : List ℕ) → length b' ≡ g .size k → sectorCall l' protected 0x31 1 0x52 k b' ≡ record { reply = record { status = success; count = g .size k }; image = l'; buffer = b }
+  back protected b' n =
       let w' = held-served l m w e placed in
-      sector-on l' m w' 0x31 1 0x52 k b' ∙ rw (read-is g (view g l') k b' low high n, kept-image l' m w' (view g l') refl, own)
+      sector-on l' m w' protected 0x31 1 0x52 k b' ∙ rw (read-is g (view g l') protected k b' low high n, kept-image l' m w' (view g l') refl, own)
 
   wrote : Wrote m l k b (record { reply = record { status = success; count = g .size k }; image = l'; buffer = b })
   wrote = record {
@@ -122,18 +122,18 @@ module _ (m : Medium) (l : List ℕ) (w : servedAs l ≡ As m) (k : ℕ) (b : Li
 pub sector-calls : SectorCalls
 unfolding sectorCall
 sector-calls = record {
-  writes = λ l m w device unit command k b t.
+  writes = λ l m w protected device unit command k b t.
       let g = geometryOf m in
       let P : ImageSectorOutcome → Type 0 = λ o. o .reply .status ≡ success → Wrote m l k b o in
-      subst P (sym (sector-on l m w device unit command k b)) (λ h.
-      let p = passed g (view g l) device unit command k b h in
+      subst P (sym (sector-on l m w protected device unit command k b)) (λ h.
+      let p = passed g (view g l) protected device unit command k b h in
       rw (p .write t) (wrote m l w k b (p .low) (p .high) (p .size)));
-  reads = λ l m w device unit command k b t.
+  reads = λ l m w protected device unit command k b t.
       let g = geometryOf m in
       let P : ImageSectorOutcome → Type 0 = λ o. o .reply .status ≡ success → (o .reply .count ≡ g .size k) × (o .buffer ≡ take (g .size k) (drop (g .start k) l)) in
-      subst P (sym (sector-on l m w device unit command k b)) (λ h.
-      let p = passed g (view g l) device unit command k b h in
+      subst P (sym (sector-on l m w protected device unit command k b)) (λ h.
+      let p = passed g (view g l) protected device unit command k b h in
       rw (p .read t) (refl, sym (sector-part g (laws l m w) l (served-whole l m w .1) k (g .size k) (p .low) (p .high) (omega arith))));
-  keeps = λ l device unit command k b t. by-served (λ (o : ImageSectorOutcome). o .image ≡ l) _ _ _ (λ _ _. refl)
-      (λ m w. kept-image l m w _ (keeps (geometryOf m) (view (geometryOf m) l) device unit command k b t));
+  keeps = λ l protected device unit command k b t. by-served (λ (o : ImageSectorOutcome). o .image ≡ l) _ _ _ (λ _ _. refl)
+      (λ m w. kept-image l m w _ (keeps (geometryOf m) (view (geometryOf m) l) protected device unit command k b t));
 }

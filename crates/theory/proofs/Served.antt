@@ -42,21 +42,21 @@ module _ (l : List ℕ) (m : Medium) (w : servedAs l ≡ As m) where
   unfolding cioCall
   cio-on t c text b = served-as {A = ImageOutcome} (servedAs l) _ _ w
 
-  pub recover-on : (s : ℕ) → let r = recover g (view g l) s in recoverCall l s ≡ record { reply = r .reply; image = imageOf g (length l) (r .disk) }
+  pub recover-on : (protected : Bool) (s : ℕ) → let r = recover g (view g l) protected s in recoverCall l protected s ≡ record { reply = r .reply; image = imageOf g (length l) (r .disk) }
   unfolding recoverCall
-  recover-on s = served-as {A = ImageRecovered} (servedAs l) _ _ w
+  recover-on protected s = served-as {A = ImageRecovered} (servedAs l) _ _ w
 
-  pub sector-on : (device unit command k : ℕ) (b : List ℕ) → let o = sector g (view g l) device unit command k b in sectorCall l device unit command k b ≡ record { reply = o .reply; image = imageOf g (length l) (o .disk); buffer = o .buffer }
+  pub sector-on : (protected : Bool) (device unit command k : ℕ) (b : List ℕ) → let o = sector g (view g l) protected device unit command k b in sectorCall l protected device unit command k b ≡ record { reply = o .reply; image = imageOf g (length l) (o .disk); buffer = o .buffer }
   unfolding sectorCall
-  sector-on device unit command k b = served-as {A = ImageSectorOutcome} (servedAs l) _ _ w
+  sector-on protected device unit command k b = served-as {A = ImageSectorOutcome} (servedAs l) _ _ w
 
   pub thin-get-on : (c : Channel) (b : List ℕ) → thinGet l c b ≡ getOn g (view g l) (c .state) b
   unfolding thinGet
   thin-get-on c b = served-as {A = GetOutcome} (servedAs l) _ _ w
 
-  pub thin-put-on : (c : Channel) (b : List ℕ) → let o = putOn g (view g l) (c .state) b in thinPut l c b ≡ record { answer = o .answer; image = imageOf g (length l) (o .disk); given = o .given }
+  pub thin-put-on : (protected : Bool) (c : Channel) (b : List ℕ) → let o = putOn g (view g l) protected (c .state) b in thinPut l protected c b ≡ record { answer = o .answer; image = imageOf g (length l) (o .disk); given = o .given }
   unfolding thinPut
-  thin-put-on c b = served-as {A = ImagePutOutcome} (servedAs l) _ _ w
+  thin-put-on protected c b = served-as {A = ImagePutOutcome} (servedAs l) _ _ w
 
   -- the image of the disk that it held before is the same list
   pub kept-image : (d : Disk) → d ≡ view g l → imageOf g (length l) d ≡ l
@@ -81,10 +81,10 @@ pub unserved : (l : List ℕ) (n : ℕ) → servedAs l ≡ Not n → Unserved l 
 unfolding cioCall recoverCall sectorCall thinGet thinPut shows
 unserved l n w = record {
   calls = λ t c text b. ap (λ (o : ImageOutcome). o .answer .status) (served-not {A = ImageOutcome} _ _ _ w);
-  recoveries = λ s. ap (λ (r : ImageRecovered). r .reply .status) (served-not {A = ImageRecovered} _ _ _ w);
-  sectors = λ device unit command k b. ap (λ (o : ImageSectorOutcome). o .reply .status) (served-not {A = ImageSectorOutcome} _ _ _ w);
+  recoveries = λ protected s. ap (λ (r : ImageRecovered). r .reply .status) (served-not {A = ImageRecovered} _ _ _ w);
+  sectors = λ protected device unit command k b. ap (λ (o : ImageSectorOutcome). o .reply .status) (served-not {A = ImageSectorOutcome} _ _ _ w);
   thinGets = λ c b. ap (λ (o : GetOutcome). o .answer .status) (served-not {A = GetOutcome} _ _ _ w);
-  thinPuts = λ c b. ap (λ (o : ImagePutOutcome). o .answer .status) (served-not {A = ImagePutOutcome} _ _ _ w);
+  thinPuts = λ protected c b. ap (λ (o : ImagePutOutcome). o .answer .status) (served-not {A = ImagePutOutcome} _ _ _ w);
   shown = λ s k. served-not {A = Bool} _ _ _ w;
 }
 

@@ -15,11 +15,11 @@ use Rattle.layout.specs.Volume.{bit, isSet}
 use Rattle.layout.specs.Directory.{flag, sameName, standingFlag, writeFlag, find, is43}
 use Rattle.layout.specs.File.{chain, file}
 use Rattle.layout.specs.Channels.{stateOf, withState}
-use Rattle.layout.specs.Status.{success}
-use Rattle.rules.specs.Lists.{Call, cioOf, recoveryOf, System, after, perform, outcomeOf}
+use Rattle.layout.specs.Status.{success, writeProtected}
+use Rattle.rules.specs.Lists.{Call, cioOf, recoveryOf, protectedIn, System, after, perform, outcomeOf}
 use Rattle.rules.specs.Sound.{Stands, Sound}
 use Rattle.rules.specs.Demand2.{On}
-use Rattle.rules.proofs.Does.{does-close}
+use Rattle.rules.proofs.Does.{does-stay, does-close}
 use Rattle.theory.proofs.Standing.{stands-where, same-names, same-bytes, bytes-same}
 use Rattle.theory.proofs.Find.{find-at, find-none}
 use Rattle.theory.proofs.SlotBytes.{flag-is}
@@ -61,11 +61,18 @@ module _ (g : Geometry) (i s : ℕ) (z : i < 8) (w : ℕ → ℕ) (r : List ℕ)
         bytes = mark-file d d beside s 0x42 (k .slot) g s false (chain g d s) (k .marks) ∙ h .bytes;
       }
 
-  pub close-call : (c : Call) → On i Close c → (perform g c y .status ≡ success) × Shut g s w r (after (perform g c y))
+  -- a close with the notch open
+  pub close-call : (c : Call) → On i Close c → protectedIn c ≡ false → (perform g c y .status ≡ success) × Shut g s w r (after (perform g c y))
   unfolding outcomeOf
-  close-call (cioOf c text b) (e, f) =
-      rw (does-close g d (y .table) c text b s (h .last) (record { on = record { small = rw e z; command = f }; state = ap (stateOf (y .table)) e ∙ h .writes }) opened) (refl, rw e shut)
-  close-call (recoveryOf x) e = absurd e
+  close-call (cioOf c text b) (e, f) u =
+      rw (does-close g d (y .table) c text b s (h .last) (record { on = record { small = rw e z; command = f }; state = ap (stateOf (y .table)) e ∙ h .writes; permitted = u }) opened) (refl, rw e shut)
+  close-call (recoveryOf protected x) e u = absurd e
+
+  -- with the notch closed
+  pub close-stays : (c : Call) → On i Close c → protectedIn c ≡ true → perform g c y .status ≡ writeProtected
+  unfolding outcomeOf
+  close-stays (cioOf c text b) (e, f) u = rw (does-stay g d (y .table) c text b s (h .last) (record { small = rw e z; command = f }) (ap (stateOf (y .table)) e ∙ h .writes) u)
+  close-stays (recoveryOf protected x) e u = absurd e
 
 -- on a sound disk a standing slot with the name is the one found
 pub find-is : (g : Geometry) (d : Disk) (t : Table) → Sound g d t → (s : ℕ) (w : ℕ → ℕ) → Stands d s → sameName d s w ≡ true → find d w ≡ At s

@@ -1,5 +1,5 @@
 -- What every get, put and close leaves, also in a partial transfer.
-use mathlib.Core.Bool.{true≢false}
+use mathlib.Core.Bool.{Bool, true≢false}
 use mathlib.Core.List.{List, []}
 use mathlib.Core.Logic.{_≢_, _⊎_, inl, inr}
 use mathlib.Core.Path.{_≡_, refl, sym, ap, _∙_}
@@ -31,7 +31,7 @@ use Rattle.rules.specs.Cio.{Outcome, outcome, ImageOutcome, Asks, leaves, cio, 
 use Rattle.rules.specs.Demand1.{Unchanged, Moved, OnlyChannel, OnlyEnd, OnlyEndOn, Transfers}
 use Rattle.rules.specs.Lists.{cioOf, outcomeOf}
 use Rattle.rules.specs.Thin.{ImagePutOutcome, thinGet, thinPut}
-use Rattle.rules.proofs.Acts.{asks, GetEnds, get-closed, get-writing, get-broken, get-none, get-some, plainly, Why, plain, no-table, Ends, refuses, reads, reads-none, writes, writes-none, frees, closes, drops}
+use Rattle.rules.proofs.Acts.{asks, GetEnds, get-closed, get-writing, get-broken, get-none, get-some, plainly, Why, plain, barred, no-table, Ends, refuses, reads, reads-none, writes, writes-none, frees, closes, drops}
 use Rattle.rules.proofs.Ends.{get-ends, put-ends, ends-as}
 use Rattle.theory.proofs.Adding.{adds-leave, put-leaves}
 use Rattle.theory.proofs.Refusals.{Kept, unchanged}
@@ -100,8 +100,9 @@ module _ (g : Geometry) (d : Disk) where
     put-transfer (writes-none h e) = put-none success
 
     -- a close is not refused with 164; with 164 it frees its channel
-    not-refused : {n : ℕ} → Why g d t (asks Close) n → n ≢ badChain
+    not-refused : {protected : Bool} {n : ℕ} → Why g d t protected (asks Close) n → n ≢ badChain
     not-refused (plain n p) e = true≢false (sym p ∙ ap plainly e)
+    not-refused (barred q) e = omega arith
     not-refused (no-table h) e = omega arith
 
     close-transfer : {o : Outcome} → Ends g d t (asks Close) (cioOf c text b) o → o .effect .status ≡ badChain → Kept d (withState t (c .channel) Closed) b o
@@ -129,8 +130,8 @@ module _ (l : List ℕ) (m : Medium) (w : servedAs l ≡ As m) where
       let (n, q, u, f) = put-transfer g D t c text b (ends-as g D t c text b _ e) in
       (n, q, u, end-on (stateOf t (c .channel)) _ _ (call-placed g (laws l m w) (D 0) (cioOf c text b) (record { disk = D; table = t }) (viewed l m w)) f)
 
-  thin-put-on : (st : State) (b : List ℕ) → let o = putOn g D st b in (o .answer .count ≤ length b) × OnlyEndOn st l (imageOf g (length l) (o .disk)) (o .given)
-  thin-put-on st b = let h = put-leaves g D (put-ends g D st b) in (h .few, end-on st _ _ (put-on-placed g (laws l m w) (D 0) D (viewed l m w) st b) (h .end))
+  thin-put-on : (protected : Bool) (st : State) (b : List ℕ) → let o = putOn g D protected st b in (o .answer .count ≤ length b) × OnlyEndOn st l (imageOf g (length l) (o .disk)) (o .given)
+  thin-put-on protected st b = let h = put-leaves g D (put-ends g D protected st b) in (h .few, end-on st _ _ (put-on-placed g (laws l m w) (D 0) D (viewed l m w) protected st b) (h .end))
 
 -- on one that is not, nothing moved
 still : (l : List ℕ) (st : State) → OnlyEndOn st l l []
@@ -151,8 +152,8 @@ transfers = record {
   thinGets = λ l c b. by-served (λ (o : GetOutcome). Moved (o .answer .count) (o .buffer) b) _ _ _ (λ _ _. none b) (λ m _. get-moved _ _ (get-ends (geometryOf m) (view (geometryOf m) l) (c .state) b));
   puts = λ l t c text b e. by-served (λ (o : ImageOutcome). (o .answer .count ≤ length b) × (o .buffer ≡ b) × OnlyChannel t (c .channel) (o .answer .table) × OnlyEndOn (stateOf t (c .channel)) l (o .image) (o .given)) _ _ _
       (λ _ _. (omega arith, refl, same t (c .channel), still l (stateOf t (c .channel)))) (λ m w. put-on l m w t c text b e);
-  thinPuts = λ l c b. by-served (λ (o : ImagePutOutcome). (o .answer .count ≤ length b) × OnlyEndOn (c .state) l (o .image) (o .given)) _ _ _
-      (λ _ _. (omega arith, still l (c .state))) (λ m w. thin-put-on l m w (c .state) b);
+  thinPuts = λ l protected c b. by-served (λ (o : ImagePutOutcome). (o .answer .count ≤ length b) × OnlyEndOn (c .state) l (o .image) (o .given)) _ _ _
+      (λ _ _. (omega arith, still l (c .state))) (λ m w. thin-put-on l m w protected (c .state) b);
   closes = λ l t c text b e. by-served (λ (o : ImageOutcome). o .answer .status ≡ badChain → Unchanged l (withState t (c .channel) Closed) b o) _ _ _
       (λ n w q. absurd (no-close l n w q)) (λ m w q. unchanged l m w (withState t (c .channel) Closed) b _ (close-transfer _ _ t c text b (ends-as (geometryOf m) (view (geometryOf m) l) t c text b _ e) q));
 }

@@ -1,4 +1,5 @@
 -- What the header's writer leaves: an image that is served, by the density of its length, and every sector as it was.
+use mathlib.Core.Bool.{Bool}
 use mathlib.Core.List.{List}
 use mathlib.Core.Path.{_≡_}
 use Prim.Native.Nat.{ℕ, _≤_}
@@ -19,4 +20,4 @@ pub record Headed (l l' : List ℕ) : Type 0 where
 
 -- on any image, whatever its old header
 abbrev pub HeaderCalls : Type 0
-HeaderCalls = (l : List ℕ) → let o = headerCall l in o .reply .status ≡ success → Headed l (o .image)
+HeaderCalls = (l : List ℕ) (protected : Bool) → let o = headerCall l protected in o .reply .status ≡ success → Headed l (o .image)

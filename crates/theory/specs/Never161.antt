@@ -1,5 +1,5 @@
 -- Nobody has ever seen 161: no call on any image and table can answer it, document 02's request P8.
-use mathlib.Core.Bool.{true, false}
+use mathlib.Core.Bool.{Bool, true, false}
 use mathlib.Core.List.{List}
 use mathlib.Core.Logic.{_≢_}
 use mathlib.Core.Path.{_≡_}
@@ -21,14 +21,14 @@ use Rattle.rules.specs.Sectors.{sectorCall}
 use Rattle.rules.specs.Thin.{thinGet, thinPut}
 use Rattle.rules.specs.WriteHeader.{headerCall}
 
--- what Q says holds of the status of every call, on any image, served or not, with any table, command block, name, buffer, slot, sector and channel record
+-- what Q says holds of the status of every call, on any image, served or not and with the notch either way, with any table, command block, name, buffer, slot, sector and channel record
 pub record EveryStatus (Q : ℕ → Type 0) : Type 0 where
   pub calls : (l : List ℕ) (t : Table) (c : Block) (text b : List ℕ) → Q (cioCall l t c text b .answer .status)
-  pub recoveries : (l : List ℕ) (s : ℕ) → Q (recoverCall l s .reply .status)
-  pub sectors : (l : List ℕ) (device unit command k : ℕ) (b : List ℕ) → Q (sectorCall l device unit command k b .reply .status)
+  pub recoveries : (l : List ℕ) (protected : Bool) (s : ℕ) → Q (recoverCall l protected s .reply .status)
+  pub sectors : (l : List ℕ) (protected : Bool) (device unit command k : ℕ) (b : List ℕ) → Q (sectorCall l protected device unit command k b .reply .status)
   pub thinGets : (l : List ℕ) (c : Channel) (b : List ℕ) → Q (thinGet l c b .answer .status)
-  pub thinPuts : (l : List ℕ) (c : Channel) (b : List ℕ) → Q (thinPut l c b .answer .status)
-  pub headers : (l : List ℕ) → Q (headerCall l .reply .status)
+  pub thinPuts : (l : List ℕ) (protected : Bool) (c : Channel) (b : List ℕ) → Q (thinPut l protected c b .answer .status)
+  pub headers : (l : List ℕ) (protected : Bool) → Q (headerCall l protected .reply .status)
 
 pub record Never161 : Type 0 where
   -- with channel i below 8 closed, not all eight are open

@@ -1,5 +1,5 @@
 -- What sector calls leave: a sector written reads back the same, every other sector is as it was, and a read changes nothing.
-use mathlib.Core.Bool.{true, false}
+use mathlib.Core.Bool.{Bool, true, false}
 use mathlib.Core.List.{List}
 use mathlib.Core.Logic.{_≢_}
 use mathlib.Core.Path.{_≡_}
@@ -19,17 +19,17 @@ pub record Wrote (m : Medium) (l : List ℕ) (k : ℕ) (b : List ℕ) (o : Image
   -- the image is as long as it was and served alike, and a read of the sector hands out what was written
   pub long : length (o .image) ≡ length l
   pub served : servedAs (o .image) ≡ As m
-  pub back : (b' : List ℕ) → length b' ≡ geometryOf m .size k
-      → sectorCall (o .image) 0x31 1 0x52 k b' ≡ record { reply = record { status = success; count = geometryOf m .size k }; image = o .image; buffer = b }
+  pub back : (protected : Bool) (b' : List ℕ) → length b' ≡ geometryOf m .size k
+      → sectorCall (o .image) protected 0x31 1 0x52 k b' ≡ record { reply = record { status = success; count = geometryOf m .size k }; image = o .image; buffer = b }
   -- every other sector, and the header, is as it was
   pub others : (x : ℕ) → x ≢ k → view (geometryOf m) (o .image) x ≡ view (geometryOf m) l x
 
--- any image, device, unit, command, sector and buffer
+-- any image, with the notch either way, device, unit, command, sector and buffer
 pub record SectorCalls : Type 0 where
-  pub writes : (l : List ℕ) (m : Medium) → servedAs l ≡ As m → (device unit command k : ℕ) (b : List ℕ) → isWrite command ≡ true
-      → let o = sectorCall l device unit command k b in o .reply .status ≡ success → Wrote m l k b o
+  pub writes : (l : List ℕ) (m : Medium) → servedAs l ≡ As m → (protected : Bool) (device unit command k : ℕ) (b : List ℕ) → isWrite command ≡ true
+      → let o = sectorCall l protected device unit command k b in o .reply .status ≡ success → Wrote m l k b o
   -- a read that answers 1 hands out the sector
-  pub reads : (l : List ℕ) (m : Medium) → servedAs l ≡ As m → (device unit command k : ℕ) (b : List ℕ) → isWrite command ≡ false
-      → let g = geometryOf m in let o = sectorCall l device unit command k b in o .reply .status ≡ success → (o .reply .count ≡ g .size k) × (o .buffer ≡ take (g .size k) (drop (g .start k) l))
+  pub reads : (l : List ℕ) (m : Medium) → servedAs l ≡ As m → (protected : Bool) (device unit command k : ℕ) (b : List ℕ) → isWrite command ≡ false
+      → let g = geometryOf m in let o = sectorCall l protected device unit command k b in o .reply .status ≡ success → (o .reply .count ≡ g .size k) × (o .buffer ≡ take (g .size k) (drop (g .start k) l))
   -- and no command but a write changes the image
-  pub keeps : (l : List ℕ) (device unit command k : ℕ) (b : List ℕ) → isWrite command ≡ false → sectorCall l device unit command k b .image ≡ l
+  pub keeps : (l : List ℕ) (protected : Bool) (device unit command k : ℕ) (b : List ℕ) → isWrite command ≡ false → sectorCall l protected device unit command k b .image ≡ l

@@ -50,11 +50,11 @@ module _ (l : List ℕ) (t : Table) where
             served-as {A = ImageOutcome} _ _ _ q ∙ ap (leaves g l) (does g (view g l) t c text b (record { small = low; command = e }))
             ∙ rw (image-view g (lawful m (served-whole l m q .0)) l) (ap (getWhole (c .channel)) (sym (served-as {A = GetOutcome} _ _ _ q)))
 
-    pub put-whole : Asks c (Moves Put) → cioCall l t c text b ≡ putWhole (c .channel) b (thinPut l (channel (stateOf t (c .channel))) b)
+    pub put-whole : Asks c (Moves Put) → cioCall l t c text b ≡ putWhole (c .channel) b (thinPut l (c .protected) (channel (stateOf t (c .channel))) b)
     unfolding cioCall command transfer putAt thinPut
     put-whole e = go (servedAs l) refl
       where
-        go : (v : Served) → servedAs l ≡ v → cioCall l t c text b ≡ putWhole (c .channel) b (thinPut l (channel (stateOf t (c .channel))) b)
+        go : (v : Served) → servedAs l ≡ v → cioCall l t c text b ≡ putWhole (c .channel) b (thinPut l (c .protected) (channel (stateOf t (c .channel))) b)
         go (Not status) q =
             served-not {A = ImageOutcome} _ _ _ q ∙ ap (λ u. tells status 0 u l b []) (sym (with-id t (c .channel) _ refl))
             ∙ ap (putWhole (c .channel) b) (sym (served-not {A = ImagePutOutcome} _ _ _ q))

@@ -23,14 +23,14 @@ pub fn thin_get(image: &[u8], channel: &mut Channel, buffer: &mut [u8]) -> Reply
     }
 }
 
-// Adds the lent bytes at the end of the lent record's file.
-pub fn thin_put(image: &mut [u8], channel: &mut Channel, buffer: &[u8]) -> Reply
-    ensures { λ r. ⌜ (r ≡ replyOf (thinPut (now (image .entry)) (now (channel .entry)) (now (buffer .entry)) .answer))
-        × (now (channel .exit) ≡ channelAfter (thinPut (now (image .entry)) (now (channel .entry)) (now (buffer .entry)) .answer))
-        × (now (image .exit) ≡ thinPut (now (image .entry)) (now (channel .entry)) (now (buffer .entry)) .image) ⌝ }
+// Adds the lent bytes at the end of the lent record's file; with the notch closed it is refused.
+pub fn thin_put(image: &mut [u8], protected: bool, channel: &mut Channel, buffer: &[u8]) -> Reply
+    ensures { λ r. ⌜ (r ≡ replyOf (thinPut (now (image .entry)) protected (now (channel .entry)) (now (buffer .entry)) .answer))
+        × (now (channel .exit) ≡ channelAfter (thinPut (now (image .entry)) protected (now (channel .entry)) (now (buffer .entry)) .answer))
+        × (now (image .exit) ≡ thinPut (now (image .entry)) protected (now (channel .entry)) (now (buffer .entry)) .image) ⌝ }
 {
     let before = *channel;
-    let written = write_on(image, before, buffer);
+    let written = write_on(image, protected, before, buffer);
     *channel = written.channel;
     Reply {
         status: written.status,

@@ -116,19 +116,43 @@ fn simplify_steps(pair: &mut Pair, start: &World, best: &mut Shrunk, tries: &mut
 
 /// Simpler steps than the one given, the simplest first.
 fn simpler(step: &Step) -> Vec<Step> {
-    let Step::Call { call, lengths } = step else {
+    let Step::Call {
+        call,
+        notch,
+        lengths,
+    } = step
+    else {
         return Vec::new();
     };
     let mut steps = Vec::new();
     if lengths.is_some() {
-        steps.push(call.clone().into());
+        steps.push(Step::Call {
+            call: call.clone(),
+            notch: *notch,
+            lengths: None,
+        });
     }
+    steps.extend(simpler_notches(*notch).iter().map(|&notch| Step::Call {
+        call: call.clone(),
+        notch,
+        lengths: *lengths,
+    }));
     let buffers = call.buffer().map(simpler_buffers).unwrap_or_default();
     steps.extend(buffers.into_iter().map(|buffer| Step::Call {
         call: call.with_buffer(buffer),
+        notch: *notch,
         lengths: *lengths,
     }));
     steps
+}
+
+/// Open is simpler than closed, and of all closed notches 1 is the simplest.
+fn simpler_notches(notch: u8) -> &'static [u8] {
+    match notch {
+        0 => &[],
+        1 => &[0],
+        _ => &[0, 1],
+    }
 }
 
 fn simpler_buffers(buffer: &Buffer) -> Vec<Buffer> {

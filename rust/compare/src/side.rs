@@ -11,12 +11,14 @@ pub trait Side {
     fn cio(&self, image: &mut [u8], table: &mut [u16], request: &mut Request) -> u64;
 
     /// Recovery of a deleted file.
-    fn recover(&self, image: &mut [u8], slot: u8) -> u64;
+    fn recover(&self, image: &mut [u8], notch: u8, slot: u8) -> u64;
 
     /// One sector read or written.
+    #[allow(clippy::too_many_arguments, reason = "those of the C interface")]
     fn sector(
         &self,
         image: &mut [u8],
+        notch: u8,
         device: u8,
         unit: u8,
         command: u8,
@@ -31,33 +33,34 @@ pub trait Side {
     fn thin_get(&self, image: &mut [u8], words: &mut [u16], buffer: &mut [u8]) -> u64;
 
     /// A put with one lent record.
-    fn thin_put(&self, image: &mut [u8], words: &mut [u16], buffer: &mut [u8]) -> u64;
+    fn thin_put(&self, image: &mut [u8], notch: u8, words: &mut [u16], buffer: &mut [u8]) -> u64;
 
     /// A name taken apart.
     fn name(&self, name: &[u8], eleven: &mut [u8]) -> u64;
 
     /// The header of an ATR image written.
-    fn header(&self, image: &mut [u8]) -> u64;
+    fn header(&self, image: &mut [u8], notch: u8) -> u64;
 }
 
 /// Hands the calls that take the same arguments on both sides, all but a CIO command, on to the functions of the same names in
 /// a module, or to the methods of a value.
 macro_rules! hand_on_to {
     ($me:ident => $($to:tt)*) => {
-        fn recover(&$me, image: &mut [u8], slot: u8) -> u64 {
-            $($to)*recover(image, slot)
+        fn recover(&$me, image: &mut [u8], notch: u8, slot: u8) -> u64 {
+            $($to)*recover(image, notch, slot)
         }
 
         fn sector(
             &$me,
             image: &mut [u8],
+            notch: u8,
             device: u8,
             unit: u8,
             command: u8,
             sector: u16,
             buffer: &mut [u8],
         ) -> u64 {
-            $($to)*sector(image, device, unit, command, sector, buffer)
+            $($to)*sector(image, notch, device, unit, command, sector, buffer)
         }
 
         fn show(&$me, image: &[u8], slot: u8, sector: u16) -> u64 {
@@ -68,16 +71,22 @@ macro_rules! hand_on_to {
             $($to)*thin_get(image, words, buffer)
         }
 
-        fn thin_put(&$me, image: &mut [u8], words: &mut [u16], buffer: &mut [u8]) -> u64 {
-            $($to)*thin_put(image, words, buffer)
+        fn thin_put(
+            &$me,
+            image: &mut [u8],
+            notch: u8,
+            words: &mut [u16],
+            buffer: &mut [u8],
+        ) -> u64 {
+            $($to)*thin_put(image, notch, words, buffer)
         }
 
         fn name(&$me, name: &[u8], eleven: &mut [u8]) -> u64 {
             $($to)*name(name, eleven)
         }
 
-        fn header(&$me, image: &mut [u8]) -> u64 {
-            $($to)*header(image)
+        fn header(&$me, image: &mut [u8], notch: u8) -> u64 {
+            $($to)*header(image, notch)
         }
     };
 }
@@ -100,6 +109,7 @@ impl Side for Proved {
     fn cio(&self, image: &mut [u8], table: &mut [u16], request: &mut Request) -> u64 {
         // Taken apart and put together by name, so that a field that either type gets cannot be forgotten here.
         let Request {
+            notch,
             channel,
             command,
             direction,
@@ -107,6 +117,7 @@ impl Side for Proved {
             buffer,
         } = request;
         let mut request = raw::Request {
+            notch: *notch,
             channel: *channel,
             command: *command,
             direction: *direction,

@@ -7,21 +7,24 @@ use model::image::Kind;
 
 use crate::step::{Call, Cio, Step};
 
-/// Counts of answers by kind of call and status, and of calls by kind of image.
+/// Counts of answers by kind of call and status, of calls by kind of image, and of calls with the
+/// notch closed.
 #[derive(Default)]
 pub struct Statistics {
     answers: BTreeMap<&'static str, BTreeMap<u8, usize>>,
     images: BTreeMap<Kind, usize>,
+    protected: usize,
 }
 
 impl Statistics {
     /// Counts the answer of a call on an image of the kind, which found all eight channels open
     /// or not.
     pub fn count(&mut self, image: Kind, all_open: bool, step: &Step, answer: u64) {
-        if let Step::Call { call, .. } = step {
+        if let Step::Call { call, notch, .. } = step {
             let statuses = self.answers.entry(kind(call, all_open)).or_default();
             *statuses.entry((answer % 256) as u8).or_default() += 1;
             *self.images.entry(image).or_default() += 1;
+            self.protected += usize::from(*notch != 0);
         }
     }
 
@@ -92,6 +95,6 @@ impl Display for Statistics {
         ] {
             writeln!(out, "{text:>22} {:>7}", self.calls_on(image))?;
         }
-        Ok(())
+        writeln!(out, "{:>22} {:>7}", "with the notch closed", self.protected)
     }
 }

@@ -1,6 +1,8 @@
 //! One step of a case: a call of the C interface, or a change by hand between two calls.
 //!
-//! A step is written as one line in the input syntax of `desk shell`.
+//! A step is written as one line in the input syntax of `desk shell`, a call with the notch closed
+//! as three: the notch is closed before it and opened behind it. The shell hands a closed notch on
+//! as 1, so another number stands in a comment.
 
 use std::fmt::{self, Display, Formatter};
 
@@ -68,9 +70,10 @@ impl Cio {
         }
     }
 
-    /// What a side is asked, with the bytes that it is lent in this place.
-    pub fn request<'a>(&'a self, buffer: &'a mut [u8]) -> Request<'a> {
+    /// What a side is asked under a notch, with the bytes that it is lent in this place.
+    pub fn request<'a>(&'a self, notch: u8, buffer: &'a mut [u8]) -> Request<'a> {
         Request::new(self.channel, self.command)
+            .notch(notch)
             .direction(self.direction)
             .name(&self.name)
             .buffer(buffer)
@@ -174,15 +177,19 @@ pub enum Step {
     Channel { number: u8, record: [u16; 5] },
     Call {
         call: Call,
+        /// 0 is open, any other value closed. Calls that cannot change an image do not take it.
+        notch: u8,
         /// Those of image and table, where no others are given.
         lengths: Option<Lengths>,
     },
 }
 
 impl From<Call> for Step {
+    /// The call with the notch open.
     fn from(call: Call) -> Step {
         Step::Call {
             call,
+            notch: 0,
             lengths: None,
         }
     }
@@ -200,11 +207,25 @@ impl Display for Step {
                 value,
             } => write!(out, "poke {sector} {byte} {value}"),
             Step::Channel { number, record } => write!(out, "channel {number} {}", words(record)),
-            Step::Call { call, lengths } => {
+            Step::Call {
+                call,
+                notch,
+                lengths,
+            } => {
+                if *notch > 1 {
+                    writeln!(out, "# notch {notch}")?;
+                }
+                if *notch > 0 {
+                    writeln!(out, "notch closed")?;
+                }
                 if let Some(Lengths { image, table }) = lengths {
                     write!(out, "lent {image} {table} ")?;
                 }
-                write!(out, "{call}")
+                write!(out, "{call}")?;
+                if *notch > 0 {
+                    write!(out, "\nnotch open")?;
+                }
+                Ok(())
             }
         }
     }
@@ -312,10 +333,19 @@ mod tests {
             image: 92_161,
             table: 39,
         });
-        let call = Call::Recover { slot: 3 };
+        let recover = |notch, lengths| Step::Call {
+            call: Call::Recover { slot: 3 },
+            notch,
+            lengths,
+        };
+        assert_eq!(recover(0, lengths).to_string(), "lent 92161 39 recover 3");
         assert_eq!(
-            Step::Call { call, lengths }.to_string(),
-            "lent 92161 39 recover 3"
+            recover(1, lengths).to_string(),
+            "notch closed\nlent 92161 39 recover 3\nnotch open"
+        );
+        assert_eq!(
+            recover(255, None).to_string(),
+            "# notch 255\nnotch closed\nrecover 3\nnotch open"
         );
         assert_eq!(Step::from(Call::Header).to_string(), "header");
         assert_eq!(

@@ -152,11 +152,15 @@ impl World {
                 self.table[5 * usize::from(*number)..][..5].copy_from_slice(record);
                 None
             }
-            Step::Call { call, lengths } => Some(self.call(side, call, *lengths)),
+            Step::Call {
+                call,
+                notch,
+                lengths,
+            } => Some(self.call(side, call, *notch, *lengths)),
         }
     }
 
-    fn call(&mut self, side: &dyn Side, call: &Call, lengths: Option<Lengths>) -> Reply {
+    fn call(&mut self, side: &dyn Side, call: &Call, notch: u8, lengths: Option<Lengths>) -> Reply {
         let lengths = lengths.unwrap_or(Lengths::of(self.kind));
         self.clear_behind_image(lengths.image);
         let image = &mut self.image[..lengths.image];
@@ -164,20 +168,20 @@ impl World {
         let mut buffer = call.buffer().map(Buffer::bytes).unwrap_or_default();
         let mut words = call.words().to_vec();
         let answer = match *call {
-            Call::Cio(ref cio) => side.cio(image, table, &mut cio.request(&mut buffer)),
-            Call::Recover { slot } => side.recover(image, slot),
+            Call::Cio(ref cio) => side.cio(image, table, &mut cio.request(notch, &mut buffer)),
+            Call::Recover { slot } => side.recover(image, notch, slot),
             Call::Sector {
                 device,
                 unit,
                 command,
                 sector,
                 ..
-            } => side.sector(image, device, unit, command, sector, &mut buffer),
+            } => side.sector(image, notch, device, unit, command, sector, &mut buffer),
             Call::Show { slot, sector } => side.show(image, slot, sector),
             Call::ThinGet { .. } => side.thin_get(image, &mut words, &mut buffer),
-            Call::ThinPut { .. } => side.thin_put(image, &mut words, &mut buffer),
+            Call::ThinPut { .. } => side.thin_put(image, notch, &mut words, &mut buffer),
             Call::Name { ref name, .. } => side.name(name, &mut buffer),
-            Call::Header => side.header(image),
+            Call::Header => side.header(image, notch),
         };
         Reply {
             answer,

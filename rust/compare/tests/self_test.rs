@@ -33,11 +33,32 @@ fn a_fault_is_noticed_and_its_case_shrunk() {
         "an open for output, and a search for its name"
     );
     assert!(!shrunk.difference.0.is_empty());
+    let open = |step: &Step| matches!(step, Step::Call { notch: 0, .. });
+    assert!(shrunk.steps.iter().all(open), "{:?}", shrunk.steps);
     let (place, difference) = pair
         .first_difference(&World::fresh(Kind::Raw), &shrunk.steps, shrunk.sound)
         .expect("the short list shows the difference too");
     assert_eq!(place + 1, shrunk.steps.len());
     assert_eq!(difference, shrunk.difference);
+}
+
+/// The last step of a short list of calls on which the model with the fault differs.
+fn step_that_shows(fault: Fault) -> Step {
+    let faulty = Model(fault);
+    let mut pair = Pair::new(("model", MODEL), ("faulty model", &faulty));
+    let Err(failure) = run(&mut pair, 1, 100_000, &mut Statistics::default()) else {
+        panic!("{fault:?} is not noticed")
+    };
+    let mut steps = shortest(&mut pair, 1, *failure).steps;
+    steps.pop().expect("the step that shows the difference")
+}
+
+#[test]
+fn a_case_keeps_a_closed_notch_where_that_matters() {
+    let after_name = step_that_shows(Fault::NotchAfterName);
+    assert!(matches!(after_name, Step::Call { notch: 1, .. }));
+    let one_only = step_that_shows(Fault::NotchOneOnly);
+    assert!(matches!(one_only, Step::Call { notch: 2.., .. }));
 }
 
 #[test]
@@ -126,19 +147,24 @@ fn every_status_comes_for_every_call_that_has_it() {
         assert!(statistics.calls_on(kind) > 5_000, "{kind:?}");
     }
     let expected: [(&str, &[u8]); 21] = [
-        ("close", &[1, 134, 164, 203, 205, 255]),
+        ("close", &[1, 134, 144, 164, 203, 205, 255]),
         (
             "delete",
             &[
-                1, 129, 130, 134, 160, 163, 164, 165, 167, 170, 200, 203, 205, 255,
+                1, 129, 130, 134, 144, 160, 163, 164, 165, 167, 170, 200, 203, 205, 255,
             ],
         ),
-        ("format", &[1, 129, 130, 134, 160, 165, 200, 203, 205, 255]),
+        (
+            "format",
+            &[1, 129, 130, 134, 144, 160, 165, 200, 203, 205, 255],
+        ),
         ("get", &[1, 131, 133, 134, 136, 164, 203, 205, 255]),
-        ("header", &[1, 203]),
+        ("header", &[1, 144, 203]),
         (
             "lock",
-            &[1, 129, 130, 134, 160, 163, 165, 170, 200, 203, 205, 255],
+            &[
+                1, 129, 130, 134, 144, 160, 163, 165, 170, 200, 203, 205, 255,
+            ],
         ),
         ("name", &[1, 130, 160, 165, 255]),
         (
@@ -148,31 +174,39 @@ fn every_status_comes_for_every_call_that_has_it() {
         (
             "open 8",
             &[
-                1, 129, 130, 134, 160, 162, 163, 164, 165, 167, 169, 200, 203, 205, 255,
+                1, 129, 130, 134, 144, 160, 162, 163, 164, 165, 167, 169, 200, 203, 205, 255,
             ],
         ),
         ("open, all eight open", &[129, 134, 203, 205, 255]),
         ("open, other direction", &[129, 134, 168, 203, 205, 255]),
         ("other commands", &[132, 134, 168, 203, 205, 255]),
-        ("put", &[1, 133, 134, 135, 162, 163, 164, 203, 205, 255]),
-        ("recover", &[1, 163, 165, 170, 201, 202, 203, 205]),
+        (
+            "put",
+            &[1, 133, 134, 135, 144, 162, 163, 164, 203, 205, 255],
+        ),
+        ("recover", &[1, 144, 163, 165, 170, 201, 202, 203, 205]),
         (
             "rename",
             &[
-                1, 129, 130, 134, 160, 163, 165, 167, 170, 200, 201, 203, 205, 255,
+                1, 129, 130, 134, 144, 160, 163, 165, 167, 170, 200, 201, 203, 205, 255,
             ],
         ),
-        ("sector", &[1, 138, 139, 203, 204, 205]),
+        ("sector", &[1, 138, 139, 144, 203, 204, 205]),
         ("show", &[0, 1]),
         (
             "status",
             &[1, 129, 130, 134, 160, 165, 167, 170, 203, 205, 255],
         ),
         ("thin get", &[1, 131, 133, 136, 164, 203, 205, 255]),
-        ("thin put", &[1, 133, 135, 162, 163, 164, 203, 205, 255]),
+        (
+            "thin put",
+            &[1, 133, 135, 144, 162, 163, 164, 203, 205, 255],
+        ),
         (
             "unlock",
-            &[1, 129, 130, 134, 160, 163, 165, 170, 200, 203, 205, 255],
+            &[
+                1, 129, 130, 134, 144, 160, 163, 165, 170, 200, 203, 205, 255,
+            ],
         ),
     ];
     for (kind, statuses) in expected {

@@ -5,12 +5,12 @@ use crate::{
     contents::read_file,
     directory,
     dump::dump,
-    failure::{numbered_recovery, About, Failure},
+    failure::{numbered, numbered_recovery, About, Failure},
     header,
     image_file::{self, ImageFile},
     syntax, whole_file,
 };
-use hilugsaban::{padded_name, Direction, Disk, Kind, Status};
+use hilugsaban::{padded_name, Direction, Disk, Kind, Notch, Status};
 use std::{
     ffi::OsStr,
     fs::File,
@@ -27,28 +27,47 @@ const CHANNEL: u8 = 0;
 pub const ATR: &str = "--atr";
 pub const DOUBLE: &str = "--double";
 
+/// The option of every command that takes an image which is there already.
+pub const PROTECT: &str = "--protect";
+
 /// The disk in these bytes of a file, if its header is right.
-fn disk(bytes: Vec<u8>, image: &OsStr) -> Result<Disk<Vec<u8>>, Failure> {
-    let mut disk = Disk::new(bytes);
+fn disk(bytes: Vec<u8>, notch: Notch, image: &OsStr) -> Result<Disk<Vec<u8>>, Failure> {
+    let mut disk = Disk::new(bytes).with_notch(notch);
     header::require(&mut disk).about(image.display())?;
     Ok(disk)
 }
 
-/// Reads an image to look at it.
+/// Reads an image to look at it. Nothing is to change it, so its notch is closed, with [`PROTECT`] and without.
 fn load(image: &OsStr) -> Result<Disk<Vec<u8>>, Failure> {
-    disk(image_file::read(Path::new(image))?, image)
+    disk(image_file::read(Path::new(image))?, Notch::Closed, image)
 }
 
-/// Changes an image: it is written back if every call succeeded.
+/// Changes the image that a command names first: it is written back if every call succeeded.
 fn edit<T>(
-    image: &OsStr,
+    arguments: &Arguments,
     calls: impl FnOnce(&mut Disk<Vec<u8>>) -> Result<T, Failure>,
 ) -> Result<T, Failure> {
-    let (mut file, bytes) = ImageFile::open(Path::new(image))?;
-    let mut disk = disk(bytes, image)?;
+    let image = &arguments.operands[0];
+    let (mut file, bytes) = ImageFile::open(Path::new(image), arguments.has(PROTECT))?;
+    let mut disk = disk(bytes, file.notch(), image)?;
+    require_unprotected(&mut disk, &file).about(image.display())?;
     let answer = calls(&mut disk)?;
     file.write_back(disk.image())?;
     Ok(answer)
+}
+
+/// Refuses to change the image of a protected file, before the command reads names, as the library does. It is the library
+/// that is asked, for a slot that no disk has.
+fn require_unprotected(disk: &mut Disk<Vec<u8>>, file: &ImageFile) -> Result<(), Failure> {
+    let Some(protection) = file.protection() else {
+        return Ok(());
+    };
+    let refused = |status| {
+        let refusal = numbered(status);
+        format!("{refusal} ({protection}); the file was left alone")
+    };
+    disk.recover(u8::MAX).map_err(refused)?;
+    Ok(())
 }
 
 /// A name on the disk.
@@ -124,14 +143,14 @@ pub fn put(arguments: &Arguments, _: &mut dyn Write) -> Outcome {
         .file_name()
         .unwrap_or(file)
         .to_ascii_uppercase();
-    let name = name(arguments.operands.get(2).unwrap_or(&own_name))?;
     let bytes = if file == "-" {
         read_input(io::stdin().lock())
     } else {
         File::open(file).and_then(read_input)
     }
     .about(file.display())?;
-    edit(&arguments.operands[0], |disk| {
+    edit(arguments, |disk| {
+        let name = name(arguments.operands.get(2).unwrap_or(&own_name))?;
         disk.open(CHANNEL, Direction::Write, name).about(name)?;
         disk.put(CHANNEL, &bytes).about(name)?;
         disk.close(CHANNEL).about(name)
@@ -163,7 +182,7 @@ fn on_names(
     arguments: &Arguments,
     call: fn(&mut Disk<Vec<u8>>, &str) -> Result<(), Status>,
 ) -> Outcome {
-    edit(&arguments.operands[0], |disk| {
+    edit(arguments, |disk| {
         for argument in &arguments.operands[1..] {
             let name = name(argument)?;
             call(disk, name).about(name)?;
@@ -173,15 +192,15 @@ fn on_names(
 }
 
 pub fn rename(arguments: &Arguments, _: &mut dyn Write) -> Outcome {
-    let (old, new) = (name(&arguments.operands[1])?, name(&arguments.operands[2])?);
-    edit(&arguments.operands[0], |disk| {
+    edit(arguments, |disk| {
+        let (old, new) = (name(&arguments.operands[1])?, name(&arguments.operands[2])?);
         disk.rename(old, new).about(format!("{old} to {new}"))
     })
 }
 
 pub fn recover(arguments: &Arguments, out: &mut dyn Write) -> Outcome {
-    let which = name(&arguments.operands[1])?;
-    let (slot, sectors) = edit(&arguments.operands[0], |disk| {
+    let (slot, sectors) = edit(arguments, |disk| {
+        let which = name(&arguments.operands[1])?;
         let slot = if which.starts_with(|first: char| first.is_ascii_digit() || first == '$') {
             syntax::number(which)?
         } else {

@@ -7,7 +7,7 @@ use crate::{
     contents::read_to_end,
     failure::{numbered, numbered_recovery, About, Failure},
 };
-use hilugsaban::{Channel, Disk, Incomplete, Status};
+use hilugsaban::{Channel, Disk, Incomplete, Notch, Status};
 use std::io::Write;
 
 const VOLUME_TABLE: u16 = 360;
@@ -79,9 +79,9 @@ pub fn slots(disk: &mut Disk<Vec<u8>>) -> Result<Vec<Slot>, Status> {
 }
 
 /// Prints a line for each file and deleted file, and the free sectors. Whether a deleted file can be recovered is found by
-/// recovering it on a copy of the disk.
+/// recovering it on a copy of the disk, whose notch is open.
 pub fn list(disk: &Disk<Vec<u8>>, out: &mut dyn Write) -> Result<(), Failure> {
-    let mut disk = disk.clone();
+    let mut disk = disk.clone().with_notch(Notch::Open);
     let slots = slots(&mut disk).about("directory")?;
     writeln!(out, "slot  name          sectors   bytes")?;
     for slot in &slots {

@@ -49,7 +49,8 @@ impl Exact<'_> {
             ("thin-put", [words @ .., buffer]) => self.thin_put(record(words)?, buffer),
             ("name", [name, eleven]) => self.name(&name.bytes, eleven),
             ("header", []) => {
-                let word = self.lend(|image, _| raw::header(image));
+                let notch = self.notch();
+                let word = self.lend(|image, _| raw::header(image, notch));
                 self.answer(word)
             }
             _ => {
@@ -59,6 +60,11 @@ impl Exact<'_> {
                 )))
             }
         }
+    }
+
+    /// The disk's notch, as the library takes it.
+    fn notch(&self) -> u8 {
+        self.disk.notch() as u8
     }
 
     /// Lends image and table at the lengths asked for, zeros behind what there is.
@@ -78,6 +84,7 @@ impl Exact<'_> {
     fn cio(&mut self, request: raw::Request, lent: &Word) -> Understood {
         let mut buffer = buffer(lent)?;
         let mut request = raw::Request {
+            notch: self.notch(),
             buffer: &mut buffer,
             ..request
         };
@@ -93,8 +100,9 @@ impl Exact<'_> {
     fn sector(&mut self, block: [u8; 3], sector: u16, lent: &Word) -> Understood {
         let [device, unit, command] = block;
         let mut buffer = buffer(lent)?;
-        let word =
-            self.lend(|image, _| raw::sector(image, device, unit, command, sector, &mut buffer));
+        let notch = self.notch();
+        let word = self
+            .lend(|image, _| raw::sector(image, notch, device, unit, command, sector, &mut buffer));
         self.answer(word)?;
         if command == command::READ_SECTOR {
             dump(&buffer, self.out)?;
@@ -103,8 +111,9 @@ impl Exact<'_> {
     }
 
     fn recover(&mut self, slot: u8) -> Understood {
-        let Answer { status, count } =
-            Answer::from_word(self.lend(|image, _| raw::recover(image, slot)));
+        let notch = self.notch();
+        let word = self.lend(|image, _| raw::recover(image, notch, slot));
+        let Answer { status, count } = Answer::from_word(word);
         let status = numbered_recovery(status);
         Ok(writeln!(self.out, "{status}; count {count}")?)
     }
@@ -133,7 +142,8 @@ impl Exact<'_> {
 
     fn thin_put(&mut self, mut record: Vec<u16>, lent: &Word) -> Understood {
         let buffer = buffer(lent)?;
-        let word = self.lend(|image, _| raw::thin_put(image, &mut record, &buffer));
+        let notch = self.notch();
+        let word = self.lend(|image, _| raw::thin_put(image, notch, &mut record, &buffer));
         self.answer(word)?;
         self.record(&record)
     }

@@ -1,7 +1,7 @@
 //! What stands in the header of an ATR file.
 
 use crate::failure::{numbered, Failure};
-use hilugsaban::{Disk, Status};
+use hilugsaban::{Disk, Notch, Status};
 use std::fmt::{self, Display};
 
 /// The parts of a header that have to agree with the image's length.
@@ -32,13 +32,14 @@ impl Display for Header {
     }
 }
 
-/// Refuses a disk that the library refuses for its header, and says what is wrong with it.
+/// Refuses a disk that the library refuses for its header, and says what is wrong with it. The right one is written on a copy
+/// whose notch is open.
 pub fn require(disk: &mut Disk<Vec<u8>>) -> Result<(), Failure> {
     if disk.whole_sector(1) != Err(Status::BadHeader) {
         return Ok(());
     }
     let said = Header::of(disk.image());
-    let mut right = disk.clone();
+    let mut right = disk.clone().with_notch(Notch::Open);
     right.write_header().map_err(numbered)?;
     Err(Failure::new(format!(
         "{} (it says {said}; {} bytes want {})",

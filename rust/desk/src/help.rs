@@ -2,7 +2,7 @@
 
 use crate::{
     arguments::Arguments,
-    commands::{self, ATR, DOUBLE},
+    commands::{self, ATR, DOUBLE, PROTECT},
     demo,
     failure::Failure,
     shell,
@@ -25,15 +25,34 @@ pub struct Command {
 impl Command {
     /// How the command is called.
     pub fn usage(&self) -> String {
-        let usage = format!("usage: desk {} {}", self.name, self.arguments);
+        let option = self.if_protectable("[--protect] ");
+        let usage = format!("usage: desk {} {option}{}", self.name, self.arguments);
         usage.trim_end().to_string()
     }
 
     /// What `desk NAME --help` prints.
     pub fn help(&self) -> String {
-        format!("{}\n\n{}.\n{}", self.usage(), self.summary, self.details)
+        let protection = self.if_protectable(PROTECTION);
+        let (usage, summary, details) = (self.usage(), self.summary, self.details);
+        format!("{usage}\n\n{summary}.\n{details}{protection}")
+    }
+
+    /// A text of the commands that take `--protect`; nothing for the others.
+    fn if_protectable(&self, text: &'static str) -> &'static str {
+        if self.options.contains(&PROTECT) {
+            text
+        } else {
+            ""
+        }
     }
 }
+
+/// What each command that takes `--protect` says about it.
+const PROTECTION: &str = "
+With --protect, and where the file may not be written, the image's write-protect notch is closed: what would
+change the image is refused with 144, and the file is left alone. A file that nobody has the permission to
+write may not be written by root either.
+";
 
 pub fn find(name: &OsStr) -> Option<&'static Command> {
     COMMANDS.iter().find(|command| name == command.name)
@@ -53,6 +72,8 @@ pub fn overview() -> String {
 desk COMMAND --help says more about one of them. Names on a disk are like ENDS.DAT, capitals only.
 A refusal is printed with its status number. The exit status is 0, or 1 where anything failed;
 an image is written back only when everything succeeded.
+With --protect, which all but new and demo take, the image's write-protect notch is closed, as it is where
+the file may not be written: what would change the image is refused with 144, and the file is left alone.
 ";
     text
 }
@@ -66,13 +87,14 @@ const COMMANDS: &[Command] = &[
         most: 1,
         summary: "Make a fresh image",
         details: "It has no files and 707 free sectors: a raw image of single density, with --atr an ATR file of single\n\
-                  density, with --double an ATR file of double density. The file must not exist yet.\n",
+                  density, with --double an ATR file of double density. The file must not exist yet, so that --protect is\n\
+                  not taken.\n",
         run: commands::new,
     },
     Command {
         name: "convert",
         arguments: "IMAGE FILE",
-        options: &[],
+        options: &[PROTECT],
         least: 2,
         most: 2,
         summary: "Make an ATR file of a raw image, or a raw image of an ATR file",
@@ -83,7 +105,7 @@ const COMMANDS: &[Command] = &[
     Command {
         name: "list",
         arguments: "IMAGE",
-        options: &[],
+        options: &[PROTECT],
         least: 1,
         most: 1,
         summary: "List the files of an image",
@@ -94,7 +116,7 @@ const COMMANDS: &[Command] = &[
     Command {
         name: "get",
         arguments: "IMAGE NAME [FILE]",
-        options: &[],
+        options: &[PROTECT],
         least: 2,
         most: 3,
         summary: "Copy a file out of an image",
@@ -106,7 +128,7 @@ const COMMANDS: &[Command] = &[
     Command {
         name: "put",
         arguments: "IMAGE FILE [NAME]",
-        options: &[],
+        options: &[PROTECT],
         least: 2,
         most: 3,
         summary: "Copy a file into an image",
@@ -117,7 +139,7 @@ const COMMANDS: &[Command] = &[
     Command {
         name: "delete",
         arguments: "IMAGE NAME...",
-        options: &[],
+        options: &[PROTECT],
         least: 2,
         most: usize::MAX,
         summary: "Delete files",
@@ -127,7 +149,7 @@ const COMMANDS: &[Command] = &[
     Command {
         name: "recover",
         arguments: "IMAGE SLOT|NAME",
-        options: &[],
+        options: &[PROTECT],
         least: 2,
         most: 2,
         summary: "Take a deleted file back",
@@ -138,7 +160,7 @@ const COMMANDS: &[Command] = &[
     Command {
         name: "rename",
         arguments: "IMAGE OLD NEW",
-        options: &[],
+        options: &[PROTECT],
         least: 3,
         most: 3,
         summary: "Rename a file",
@@ -148,7 +170,7 @@ const COMMANDS: &[Command] = &[
     Command {
         name: "lock",
         arguments: "IMAGE NAME...",
-        options: &[],
+        options: &[PROTECT],
         least: 2,
         most: usize::MAX,
         summary: "Lock files against writing, renaming and deleting",
@@ -158,7 +180,7 @@ const COMMANDS: &[Command] = &[
     Command {
         name: "unlock",
         arguments: "IMAGE NAME...",
-        options: &[],
+        options: &[PROTECT],
         least: 2,
         most: usize::MAX,
         summary: "Unlock files",
@@ -168,7 +190,7 @@ const COMMANDS: &[Command] = &[
     Command {
         name: "sector",
         arguments: "IMAGE N",
-        options: &[],
+        options: &[PROTECT],
         least: 2,
         most: 2,
         summary: "Print the bytes of a sector",
@@ -179,7 +201,7 @@ const COMMANDS: &[Command] = &[
     Command {
         name: "shell",
         arguments: "[IMAGE]",
-        options: &[],
+        options: &[PROTECT],
         least: 0,
         most: 1,
         summary: "Make calls one by one",

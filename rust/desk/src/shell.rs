@@ -2,6 +2,7 @@
 
 use crate::{
     arguments::Arguments,
+    commands::PROTECT,
     directory,
     dump::dump,
     exact::{print_answer, Exact, Lengths, Understood},
@@ -10,10 +11,10 @@ use crate::{
     syntax::{self, value, Word},
 };
 use hilugsaban::{
-    command, Answer, Channel, Direction, Disk, Kind, Status, CHANNELS, CLOSED, READING, WRITING,
+    command, Answer, Channel, Direction, Disk, Kind, Notch, Status, CHANNELS, CLOSED, READING,
+    WRITING,
 };
 use std::{
-    ffi::OsString,
     io::{self, BufRead, IsTerminal, Write},
     path::Path,
 };
@@ -52,9 +53,14 @@ The disk and its channels
   channel N KIND SLOT SECTOR OFFSET LEFT
                                change a channel; KIND is 0 closed, 1 reading, 2 writing
   table                        the eight channels
-  fresh [atr|double]           another disk: fresh, with all channels closed; a raw image, or an ATR file of
-                               single or double density. An image in a file stays what it is
-  save [FILE]                  write the image back, or to a new FILE
+  notch                        how the write-protect notch is. It starts closed with --protect, and where the
+                               file may not be written
+  notch open|closed            open or close it: while it is closed, everything that could change the image is
+                               refused with 144, poke too, and fresh where there is a file
+  fresh [atr|double]           another disk: fresh, with all channels closed and the notch open; a raw image,
+                               or an ATR file of single or double density. An image in a file stays what it is
+  save [FILE]                  write the image back, or to a new FILE; what was changed before the notch was
+                               closed is written too. A file whose notch starts closed is never written back
   help, quit
 
 A number is decimal, or hexadecimal behind $ or 0x. BUFFER is N*XX (N bytes of hexadecimal value XX),
@@ -71,7 +77,10 @@ struct Shell<'a> {
 
 /// `desk shell`: reads lines to the end or to `quit`.
 pub fn run(arguments: &Arguments, out: &mut dyn Write) -> Result<(), Failure> {
-    let mut shell = Shell::new(arguments.operands.first(), out)?;
+    let mut shell = Shell::new(arguments, out)?;
+    if shell.disk.notch() == Notch::Closed {
+        shell.tell_notch()?;
+    }
     let mut input = io::stdin().lock();
     let terminal = input.is_terminal();
     let mut failed = 0;
@@ -115,10 +124,20 @@ fn kind_named(word: &str) -> Result<Kind, Failure> {
     }
 }
 
+fn notch_named(word: &str) -> Result<Notch, Failure> {
+    match word {
+        "open" => Ok(Notch::Open),
+        "closed" => Ok(Notch::Closed),
+        other => Err(Failure::new(format!("{other}: neither open nor closed"))),
+    }
+}
+
 impl<'a> Shell<'a> {
-    fn new(image: Option<&OsString>, out: &'a mut dyn Write) -> Result<Shell<'a>, Failure> {
-        let Some(image) = image else {
-            let disk = Disk::fresh();
+    fn new(arguments: &Arguments, out: &'a mut dyn Write) -> Result<Shell<'a>, Failure> {
+        let protect = arguments.has(PROTECT);
+        let Some(image) = arguments.operands.first() else {
+            let notch = if protect { Notch::Closed } else { Notch::Open };
+            let disk = Disk::fresh().with_notch(notch);
             return Ok(Shell {
                 saved: disk.image().to_vec(),
                 disk,
@@ -126,9 +145,9 @@ impl<'a> Shell<'a> {
                 out,
             });
         };
-        let (file, bytes) = ImageFile::open_any(Path::new(image))?;
+        let (file, bytes) = ImageFile::open_any(Path::new(image), protect)?;
         Ok(Shell {
-            disk: Disk::new(bytes.clone()),
+            disk: Disk::new(bytes.clone()).with_notch(file.notch()),
             file: Some(file),
             saved: bytes,
             out,
@@ -187,6 +206,8 @@ impl<'a> Shell<'a> {
                 self.channel(value(n)?, channel)
             }
             ("table", []) => self.table(),
+            ("notch", []) => self.tell_notch(),
+            ("notch", [notch]) => self.set_notch(notch_named(notch.text()?)?),
             ("fresh", []) => self.fresh(Kind::Raw),
             ("fresh", [kind]) => self.fresh(kind_named(kind.text()?)?),
             ("list", []) => directory::list(&self.disk, self.out),
@@ -254,7 +275,8 @@ impl<'a> Shell<'a> {
         self.status(answer.map(|()| 0))
     }
 
-    /// Changes a byte of a sector or of the header. It is no call, so a header that does not agree does not hinder it.
+    /// Changes a byte of a sector or of the header. It is no call, so a header that does not agree does not hinder it; a
+    /// closed notch does, as it hinders all that changes the image.
     fn poke(&mut self, sector: u16, byte: u8, new: u8) -> Understood {
         let kind = self.disk.kind().ok_or_else(|| numbered(Status::BadImage))?;
         let place = match sector {
@@ -262,7 +284,9 @@ impl<'a> Shell<'a> {
             _ => kind.offset(sector, byte.into()),
         };
         let nowhere = || format!("{kind}: sector {sector} has no byte {byte}");
-        self.disk.image_mut()[place.ok_or_else(nowhere)?] = new;
+        let place = place.ok_or_else(nowhere)?;
+        self.require_open_notch()?;
+        self.disk.image_mut()[place] = new;
         Ok(writeln!(self.out, "sector {sector} byte {byte} is {new}")?)
     }
 
@@ -299,13 +323,41 @@ impl<'a> Shell<'a> {
         Ok(writeln!(self.out, "{n}  {state}")?)
     }
 
+    fn set_notch(&mut self, notch: Notch) -> Understood {
+        self.disk.set_notch(notch);
+        self.tell_notch()
+    }
+
+    /// Says how the notch is, and for a file that is never written, why that is so.
+    fn tell_notch(&mut self) -> Understood {
+        let protection = self.file.as_ref().and_then(ImageFile::protection);
+        let notch = match (self.disk.notch(), protection) {
+            (Notch::Open, None) => "open".to_string(),
+            (Notch::Open, Some(why)) => format!("open, but save leaves the file alone: {why}"),
+            (Notch::Closed, None) => "closed".to_string(),
+            (Notch::Closed, Some(why)) => format!("closed: {why}"),
+        };
+        Ok(writeln!(self.out, "the notch is {notch}")?)
+    }
+
+    /// Refuses what would change the image and is no call, where the library refuses the calls that would.
+    fn require_open_notch(&self) -> Understood {
+        match self.disk.notch() {
+            Notch::Open => Ok(()),
+            Notch::Closed => Err(Failure::new(numbered(Status::WriteProtected))),
+        }
+    }
+
     /// Begins again with another disk. It is no call, so no channel hinders it; a file of another kind, or one that is no
-    /// image at all, is not to be overwritten by the next save.
+    /// image at all, is not to be overwritten by the next save, nor is one whose notch is closed.
     fn fresh(&mut self, kind: Kind) -> Understood {
-        if self.file.is_some() && self.disk.kind() != Some(kind) {
-            return Err(Failure::new(format!(
-                "the file is no {kind} and stays as it is"
-            )));
+        if self.file.is_some() {
+            if self.disk.kind() != Some(kind) {
+                return Err(Failure::new(format!(
+                    "the file is no {kind} and stays as it is"
+                )));
+            }
+            self.require_open_notch()?;
         }
         self.disk = Disk::fresh_as(kind);
         Ok(writeln!(self.out, "a fresh disk with all channels closed")?)

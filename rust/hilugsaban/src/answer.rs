@@ -54,6 +54,7 @@ statuses! {
     EndOfFile = 136, "the file has ended";
     NoDevice = 138, "no such device: only device $31, unit 1 answers";
     BadRequest = 139, "no such sector or sector command";
+    WriteProtected = 144, "the write-protect notch is closed";
     BadUnit = 160, "no such drive: there is only drive 1";
     DiskFull = 162, "no sector is free";
     BadTable = 163, "the disk's volume table is damaged";
@@ -101,6 +102,7 @@ impl From<Status> for io::Error {
         let kind = match status {
             Status::NotFound => NotFound,
             Status::FileLocked | Status::WriteOnly | Status::ReadOnly => PermissionDenied,
+            Status::WriteProtected => ReadOnlyFilesystem,
             Status::FileHeld | Status::ChannelOpen => ResourceBusy,
             Status::NameTaken => AlreadyExists,
             Status::DiskFull | Status::NoSlot => StorageFull,

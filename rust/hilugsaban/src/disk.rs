@@ -3,7 +3,7 @@
 use crate::{
     answer::{Answer, Incomplete},
     name::lent,
-    raw, Channel, Kind, Reader, Status, Table, Writer,
+    raw, Channel, Kind, Notch, Reader, Status, Table, Writer,
 };
 
 /// Numbers of the commands, for [`Disk::cio`] and [`Disk::sector`].
@@ -48,7 +48,7 @@ pub enum Direction {
     Write = 8,
 }
 
-/// A disk image, owned or borrowed, with its table of channels.
+/// A disk image, owned or borrowed, with its table of channels and its [`Notch`].
 ///
 /// `B` is anything that lends bytes: `Vec<u8>`, `Box<[u8]>`, `&mut [u8]`; a `&[u8]` can be shown and read by thin calls. An
 /// image that has not the length of one of the three [kinds](Kind) is refused by each call, as is an ATR file whose header
@@ -73,6 +73,7 @@ pub enum Direction {
 pub struct Disk<B> {
     image: B,
     table: Table,
+    notch: Notch,
 }
 
 impl Disk<Vec<u8>> {
@@ -104,14 +105,33 @@ impl Disk<Vec<u8>> {
 }
 
 impl<B> Disk<B> {
-    /// The disk in these bytes, with all channels closed.
+    /// The disk in these bytes, with all channels closed and its notch open.
     pub fn new(image: B) -> Disk<B> {
         Disk::with_table(image, Table::new())
     }
 
-    /// The disk in these bytes, with its channels as they were.
+    /// The disk in these bytes, with its channels as they were and its notch open.
     pub fn with_table(image: B, table: Table) -> Disk<B> {
-        Disk { image, table }
+        Disk {
+            image,
+            table,
+            notch: Notch::Open,
+        }
+    }
+
+    /// The same disk with its notch as given.
+    pub fn with_notch(self, notch: Notch) -> Disk<B> {
+        Disk { notch, ..self }
+    }
+
+    /// The write-protect notch.
+    pub fn notch(&self) -> Notch {
+        self.notch
+    }
+
+    /// Opens or closes the write-protect notch.
+    pub fn set_notch(&mut self, notch: Notch) {
+        self.notch = notch;
     }
 
     /// The channels.
@@ -203,6 +223,7 @@ impl<B: AsMut<[u8]>> Disk<B> {
         buffer: &mut [u8],
     ) -> Answer {
         let mut request = raw::Request {
+            notch: self.notch as u8,
             direction,
             name,
             buffer,
@@ -255,7 +276,8 @@ impl<B: AsMut<[u8]>> Disk<B> {
             .complete()
     }
 
-    /// Closes a channel. It is closed also where the answer is [`Status::BadChain`].
+    /// Closes a channel. It is closed also where the answer is [`Status::BadChain`]; a writing channel whose close answers
+    /// [`Status::WriteProtected`] stays open.
     pub fn close(&mut self, channel: u8) -> Result<(), Status> {
         self.cio(channel, command::CLOSE, 0, &[], &mut [])
             .status
@@ -326,7 +348,7 @@ impl<B: AsMut<[u8]>> Disk<B> {
 
     /// Takes the deleted file in a directory slot back, and answers its number of sectors.
     pub fn recover(&mut self, slot: u8) -> Result<usize, Status> {
-        Answer::from_word(raw::recover(self.image.as_mut(), slot)).ok()
+        Answer::from_word(raw::recover(self.image.as_mut(), self.notch as u8, slot)).ok()
     }
 
     /// A sector call, every argument lent as it is.
@@ -340,6 +362,7 @@ impl<B: AsMut<[u8]>> Disk<B> {
     ) -> Answer {
         Answer::from_word(raw::sector(
             self.image.as_mut(),
+            self.notch as u8,
             device,
             unit,
             command,
@@ -421,7 +444,8 @@ impl<B: AsMut<[u8]>> Disk<B> {
     /// ```
     pub fn thin_put(&mut self, channel: &mut Channel, bytes: &[u8]) -> Result<usize, Incomplete> {
         let mut words = channel.words();
-        let word = raw::thin_put(self.image.as_mut(), &mut words, bytes);
+        let notch = self.notch as u8;
+        let word = raw::thin_put(self.image.as_mut(), notch, &mut words, bytes);
         *channel = words.into();
         Answer::from_word(word).complete()
     }
@@ -439,7 +463,7 @@ impl<B: AsMut<[u8]>> Disk<B> {
     /// # Ok::<(), Status>(())
     /// ```
     pub fn write_header(&mut self) -> Result<(), Status> {
-        Answer::from_word(raw::header(self.image.as_mut()))
+        Answer::from_word(raw::header(self.image.as_mut(), self.notch as u8))
             .status
             .ok()
     }

@@ -29,12 +29,18 @@
 //!
 //! A name is a letter and up to seven letters or digits, then optionally a point and up to three letters or digits, capitals
 //! only. It may begin with its device, `D:` or `D1:`; without one, `D:` is put before it. The ending byte that the library
-//! asks for is put behind it, so a name that holds an ending byte itself (0 or $9B) is refused as malformed.
+//! asks for is put behind it, so a name that holds an ending byte itself (0 or $9B) is refused as malformed, before the library
+//! is asked.
 //!
 //! # Linking
 //!
 //! The build links `libcapi.a` from the repository's `target/staticlib`, where `rt staticlib capi` writes it, or from the
 //! folder that the environment variable `HILUGSABAN_LIB` names by an absolute path.
+//!
+//! # The notch
+//!
+//! Each disk has a write-protect [`Notch`], which is open unless it is closed by [`Disk::with_notch`] or [`Disk::set_notch`].
+//! With it closed no call changes the image: each that could is refused with [`Status::WriteProtected`].
 //!
 //! # Exact calls
 //!
@@ -46,6 +52,7 @@ mod answer;
 mod disk;
 mod kind;
 mod name;
+mod notch;
 #[allow(unsafe_code)]
 pub mod raw;
 mod stream;
@@ -55,6 +62,7 @@ pub use answer::{Answer, Incomplete, Status};
 pub use disk::{command, Direction, Disk};
 pub use kind::Kind;
 pub use name::padded_name;
+pub use notch::Notch;
 pub use stream::{Reader, Writer};
 pub use table::{Channel, Table, CHANNELS, CLOSED, READING, WRITING};
 

@@ -1,6 +1,7 @@
 //! The functions of `libcapi.a` over slices. All unsafe code of the crate is here.
 //!
-//! `include/hilugsaban.h` says what each answers. Except for [`show`], an answer is status + 256 * count.
+//! `include/hilugsaban.h` says what each answers. Except for [`show`], an answer is status + 256 * count. A notch of 0 is open,
+//! any other value closed.
 //!
 //! Every call is sound for every argument: the functions have no precondition beyond valid parts that do not overlap, which
 //! references of Rust are; an empty slice has a pointer that is not null.
@@ -12,6 +13,7 @@ mod archive {
             image_length: usize,
             table: *mut u16,
             table_length: usize,
+            notch: u8,
             channel: u8,
             command: u8,
             direction: u8,
@@ -20,10 +22,11 @@ mod archive {
             buffer: *mut u8,
             buffer_length: usize,
         ) -> u64;
-        pub fn dos_recover(image: *mut u8, image_length: usize, slot: u8) -> u64;
+        pub fn dos_recover(image: *mut u8, image_length: usize, notch: u8, slot: u8) -> u64;
         pub fn dos_sector(
             image: *mut u8,
             image_length: usize,
+            notch: u8,
             device: u8,
             unit: u8,
             command: u8,
@@ -43,6 +46,7 @@ mod archive {
         pub fn dos_thin_put(
             image: *mut u8,
             image_length: usize,
+            notch: u8,
             channel: *mut u16,
             channel_length: usize,
             buffer: *const u8,
@@ -54,13 +58,15 @@ mod archive {
             eleven: *mut u8,
             eleven_length: usize,
         ) -> u64;
-        pub fn dos_header(image: *mut u8, image_length: usize) -> u64;
+        pub fn dos_header(image: *mut u8, image_length: usize, notch: u8) -> u64;
     }
 }
 
 /// What a CIO command asks for. Image and table are lent beside it.
 #[derive(Debug, Default)]
 pub struct Request<'a> {
+    /// The image's write-protect notch: 0 is open, any other value closed.
+    pub notch: u8,
     /// The channel's place in the table.
     pub channel: u8,
     /// The command's number, see [`command`](crate::command).
@@ -74,8 +80,8 @@ pub struct Request<'a> {
 }
 
 impl Request<'_> {
-    /// A command that needs neither direction nor name nor buffer. One that does is written from it, as in
-    /// `Request { name, ..Request::new(channel, command) }`, which stays as it is when a request gets one more field.
+    /// A command that needs neither direction nor name nor buffer, with the notch open. One that does is written from it, as
+    /// in `Request { name, ..Request::new(channel, command) }`, which stays as it is when a request gets one more field.
     #[inline]
     pub fn new(channel: u8, command: u8) -> Self {
         Request {
@@ -96,6 +102,7 @@ pub fn cio(image: &mut [u8], table: &mut [u16], request: &mut Request) -> u64 {
             image.len(),
             table.as_mut_ptr(),
             table.len(),
+            request.notch,
             request.channel,
             request.command,
             request.direction,
@@ -109,15 +116,16 @@ pub fn cio(image: &mut [u8], table: &mut [u16], request: &mut Request) -> u64 {
 
 /// Takes the deleted file in a slot back.
 #[inline]
-pub fn recover(image: &mut [u8], slot: u8) -> u64 {
+pub fn recover(image: &mut [u8], notch: u8, slot: u8) -> u64 {
     // SAFETY: as for `cio`.
-    unsafe { archive::dos_recover(image.as_mut_ptr(), image.len(), slot) }
+    unsafe { archive::dos_recover(image.as_mut_ptr(), image.len(), notch, slot) }
 }
 
 /// Reads or writes a sector.
 #[inline]
 pub fn sector(
     image: &mut [u8],
+    notch: u8,
     device: u8,
     unit: u8,
     command: u8,
@@ -129,6 +137,7 @@ pub fn sector(
         archive::dos_sector(
             image.as_mut_ptr(),
             image.len(),
+            notch,
             device,
             unit,
             command,
@@ -164,12 +173,13 @@ pub fn thin_get(image: &[u8], channel: &mut [u16], buffer: &mut [u8]) -> u64 {
 
 /// A put on one channel that is lent by itself.
 #[inline]
-pub fn thin_put(image: &mut [u8], channel: &mut [u16], buffer: &[u8]) -> u64 {
+pub fn thin_put(image: &mut [u8], notch: u8, channel: &mut [u16], buffer: &[u8]) -> u64 {
     // SAFETY: as for `cio`.
     unsafe {
         archive::dos_thin_put(
             image.as_mut_ptr(),
             image.len(),
+            notch,
             channel.as_mut_ptr(),
             channel.len(),
             buffer.as_ptr(),
@@ -187,7 +197,7 @@ pub fn name(name: &[u8], eleven: &mut [u8]) -> u64 {
 
 /// Writes the header of an ATR file into the image.
 #[inline]
-pub fn header(image: &mut [u8]) -> u64 {
+pub fn header(image: &mut [u8], notch: u8) -> u64 {
     // SAFETY: as for `cio`.
-    unsafe { archive::dos_header(image.as_mut_ptr(), image.len()) }
+    unsafe { archive::dos_header(image.as_mut_ptr(), image.len(), notch) }
 }

@@ -35,7 +35,8 @@ impl<B: AsMut<[u8]>> Read for Reader<'_, B> {
 
 /// Writes to the file of an open channel. Nothing is held back, so a flush does nothing.
 ///
-/// A full disk is an error of kind [`io::ErrorKind::StorageFull`], but the bytes that fit are written first.
+/// A full disk is an error of kind [`io::ErrorKind::StorageFull`], but the bytes that fit are written first. A closed notch is
+/// an error of kind [`io::ErrorKind::ReadOnlyFilesystem`].
 #[derive(Debug)]
 pub struct Writer<'a, B> {
     disk: &'a mut Disk<B>,

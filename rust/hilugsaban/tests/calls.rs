@@ -1,7 +1,8 @@
 //! The safe calls on whole disks: files, refusals, damage, streams.
 
 use hilugsaban::{
-    Channel, Direction, Disk, Incomplete, Kind, Status, CHANNELS, CLOSED, READING, WRITING,
+    command, raw, Answer, Channel, Direction, Disk, Incomplete, Kind, Notch, Status, CHANNELS,
+    CLOSED, READING, WRITING,
 };
 use std::io::{self, ErrorKind, Read, Write};
 
@@ -296,4 +297,243 @@ fn a_header_has_to_agree_with_the_length() {
         assert_eq!(disk.image()[7..16], [0xFF; 9]);
     }
     assert_eq!(Disk::fresh().write_header(), Err(Status::BadImage));
+}
+
+/// A disk with the file A in slot 0, which channel 4 reads, the deleted file B in slot 1, the file C in slot 2, which channel 3
+/// writes, and the file D in slot 3.
+fn busy_disk(kind: Kind) -> Disk<Vec<u8>> {
+    let mut disk = Disk::fresh_as(kind);
+    for name in ["A", "B"] {
+        make(&mut disk, name, b"bytes");
+    }
+    disk.open(3, Direction::Write, "C").unwrap();
+    disk.open(4, Direction::Read, "A").unwrap();
+    make(&mut disk, "D", b"more bytes");
+    disk.delete("B").unwrap();
+    disk
+}
+
+/// What a call leaves: image and channels.
+fn left_by(disk: &Disk<Vec<u8>>) -> (Vec<u8>, Vec<u16>) {
+    (disk.image().to_vec(), disk.table().words().to_vec())
+}
+
+/// A call of a disk, whatever it answers beside its status.
+type Call = fn(&mut Disk<Vec<u8>>) -> Result<(), Status>;
+
+/// Calls of every kind that could change the image of [`busy_disk`], each with its answer where the notch is open.
+const CHANGING_CALLS: [(&str, Call, Result<(), Status>); 17] = [
+    ("open", |disk| disk.open(0, Direction::Write, "NEW"), Ok(())),
+    ("put", |disk| Ok(disk.put(3, b"more").map(drop)?), Ok(())),
+    (
+        "put of none",
+        |disk| Ok(disk.put(3, b"").map(drop)?),
+        Ok(()),
+    ),
+    ("close", |disk| disk.close(3), Ok(())),
+    ("rename", |disk| disk.rename("D", "E"), Ok(())),
+    ("delete", |disk| disk.delete("D"), Ok(())),
+    ("lock", |disk| disk.lock("D"), Ok(())),
+    ("unlock", |disk| disk.unlock("D"), Ok(())),
+    ("recover", |disk| disk.recover(1).map(drop), Ok(())),
+    (
+        "write",
+        |disk| disk.write_sector(1, &[7; 128]).map(drop),
+        Ok(()),
+    ),
+    (
+        "delete, held",
+        |disk| disk.delete("A"),
+        Err(Status::FileHeld),
+    ),
+    ("format", |disk| disk.format(), Err(Status::FileHeld)),
+    (
+        "lock, no file",
+        |disk| disk.lock("NONE"),
+        Err(Status::NotFound),
+    ),
+    (
+        "unlock, no name",
+        |disk| disk.unlock("1A"),
+        Err(Status::BadName),
+    ),
+    (
+        "rename, no device",
+        |disk| disk.rename("E:A", "B"),
+        Err(Status::BadDevice),
+    ),
+    (
+        "recover, no slot",
+        |disk| disk.recover(64).map(drop),
+        Err(Status::NotFound),
+    ),
+    (
+        "write, short",
+        |disk| disk.write_sector(1, &[7]).map(drop),
+        Err(Status::BadLength),
+    ),
+];
+
+#[test]
+fn a_closed_notch_refuses_every_call_that_could_change_the_image() {
+    for kind in Kind::ALL {
+        for (call, make_call, served) in CHANGING_CALLS {
+            let mut disk = busy_disk(kind).with_notch(Notch::Closed);
+            let before = left_by(&disk);
+            let answer = make_call(&mut disk);
+            assert_eq!(answer, Err(Status::WriteProtected), "{kind:?}, {call}");
+            assert!(left_by(&disk) == before, "{kind:?}, {call}");
+            disk.set_notch(Notch::Open);
+            assert_eq!(make_call(&mut disk), served, "{kind:?}, {call}");
+        }
+    }
+}
+
+#[test]
+fn channel_direction_and_sector_are_looked_at_before_the_notch() {
+    let mut disk = busy_disk(Kind::Raw).with_notch(Notch::Closed);
+    for bytes in [&b""[..], b"more"] {
+        let refused = |status| Err(Incomplete { status, count: 0 });
+        assert_eq!(disk.put(0, bytes), refused(Status::ChannelClosed));
+        assert_eq!(disk.put(4, bytes), refused(Status::ReadOnly));
+        assert_eq!(disk.write_sector(0, bytes), Err(Status::BadRequest));
+    }
+    let open_on_3 = disk.open(3, Direction::Write, "NEW");
+    assert_eq!(open_on_3, Err(Status::ChannelOpen));
+    let no_direction = disk.cio(0, command::OPEN, 5, b"E:", &mut []);
+    assert_eq!(no_direction.status, Status::NotServed);
+    assert_eq!(disk.close(8), Err(Status::BadChannel));
+    disk.image_mut()[359 * 128] = 0;
+    assert_eq!(disk.delete("D"), Err(Status::WriteProtected));
+}
+
+#[test]
+fn what_only_reads_is_served_with_the_notch_closed() {
+    for kind in Kind::ALL {
+        let mut disk = busy_disk(kind).with_notch(Notch::Closed);
+        let image = disk.image().to_vec();
+        let mut bytes = [0; 5];
+        assert_eq!(disk.get(4, &mut bytes), Ok(5));
+        assert_eq!(&bytes, b"bytes");
+        assert_eq!(disk.close(4), Ok(()));
+        assert_eq!(disk.close(4), Ok(()));
+        assert_eq!(read(&mut disk, "A"), b"bytes");
+        assert_eq!(disk.status("A"), Ok(()));
+        assert_eq!(disk.show(0, 4), Some(&b"bytes"[..]));
+        assert_eq!(disk.whole_sector(4).unwrap()[..5], *b"bytes");
+        let mut channel = Channel::reading(0, 1);
+        assert_eq!(disk.thin_get(&mut channel, &mut bytes), Ok(5));
+        assert!(disk.image() == image);
+    }
+}
+
+#[test]
+fn a_writing_channel_stays_open_while_the_notch_is_closed() {
+    let mut disk = busy_disk(Kind::Raw).with_notch(Notch::Closed);
+    let writing = disk.table().channel(3);
+    let slot_of_no_output = Channel { slot: 0, ..writing };
+    for channel in [writing, slot_of_no_output] {
+        disk.table_mut().set_channel(3, channel);
+        assert_eq!(disk.close(3), Err(Status::WriteProtected));
+        assert_eq!(disk.table().channel(3), channel);
+    }
+    disk.set_notch(Notch::Open);
+    assert_eq!(disk.close(3), Err(Status::BadChain));
+    assert_eq!(disk.table().channel(3), Channel::default());
+}
+
+#[test]
+fn a_thin_put_moves_no_channel_while_the_notch_is_closed() {
+    let mut disk = busy_disk(Kind::AtrDouble).with_notch(Notch::Closed);
+    let before = left_by(&disk);
+    let writing = disk.table().channel(3);
+    let mut channel = writing;
+    for bytes in [&b""[..], &[7; 300]] {
+        let refused = Incomplete {
+            status: Status::WriteProtected,
+            count: 0,
+        };
+        assert_eq!(disk.thin_put(&mut channel, bytes), Err(refused));
+        assert_eq!(channel, writing);
+    }
+    assert!(left_by(&disk) == before);
+    disk.set_notch(Notch::Open);
+    assert_eq!(disk.thin_put(&mut channel, &[7; 300]), Ok(300));
+    assert_ne!(channel, writing);
+}
+
+#[test]
+fn a_header_is_written_with_the_notch_open_only() {
+    for kind in [Kind::AtrSingle, Kind::AtrDouble] {
+        let mut disk = Disk::new(vec![0; kind.image_bytes()]).with_notch(Notch::Closed);
+        assert_eq!(disk.write_header(), Err(Status::WriteProtected));
+        assert!(disk.image().iter().all(|&byte| byte == 0));
+        disk.set_notch(Notch::Open);
+        assert_eq!(disk.write_header(), Ok(()));
+        assert_eq!(disk.format(), Ok(()));
+    }
+    let mut disk = Disk::fresh().with_notch(Notch::Closed);
+    assert_eq!(disk.write_header(), Err(Status::BadImage));
+}
+
+#[test]
+fn a_disk_is_formatted_with_the_notch_open_only() {
+    for kind in Kind::ALL {
+        let mut disk = Disk::fresh_as(kind).with_notch(Notch::Closed);
+        disk.image_mut()[kind.header_bytes()..].fill(0xA5);
+        let before = left_by(&disk);
+        assert_eq!(disk.format(), Err(Status::WriteProtected));
+        assert!(left_by(&disk) == before);
+        disk.set_notch(Notch::Open);
+        assert_eq!(disk.format(), Ok(()));
+        assert!(disk.image() == Disk::fresh_as(kind).image());
+    }
+}
+
+#[test]
+fn a_writer_meets_a_closed_notch_as_a_read_only_medium() {
+    let mut disk = busy_disk(Kind::Raw).with_notch(Notch::Closed);
+    let error = disk.writer(3).write_all(b"more").unwrap_err();
+    assert_eq!(error.kind(), ErrorKind::ReadOnlyFilesystem);
+    disk.set_notch(Notch::Open);
+    disk.writer(3).write_all(b"more").unwrap();
+    assert_eq!(disk.show(2, 6), Some(&b"more"[..]));
+}
+
+#[test]
+fn a_disk_keeps_its_notch() {
+    assert_eq!(Notch::default(), Notch::Open);
+    assert_eq!(Disk::fresh().notch(), Notch::Open);
+    assert_eq!(Disk::new([0; 9]).notch(), Notch::Open);
+    let closed = busy_disk(Kind::Raw).with_notch(Notch::Closed);
+    assert_eq!(closed.notch(), Notch::Closed);
+    assert_eq!(closed.clone().notch(), Notch::Closed);
+    assert_eq!(left_by(&closed), left_by(&busy_disk(Kind::Raw)));
+}
+
+#[test]
+fn every_notch_but_0_is_closed() {
+    for notch in 0..=255 {
+        let status = if notch == 0 {
+            Status::Success
+        } else {
+            Status::WriteProtected
+        };
+        let (mut image, mut table) = busy_disk(Kind::AtrSingle).into_parts();
+        let mut channel = table.channel(3).words();
+        let mut close = raw::Request {
+            notch,
+            ..raw::Request::new(3, command::CLOSE)
+        };
+        let words = [
+            raw::sector(&mut image, notch, 0x31, 1, 0x50, 720, &mut [7; 128]),
+            raw::recover(&mut image, notch, 1),
+            raw::thin_put(&mut image, notch, &mut channel, b"a"),
+            raw::cio(&mut image, table.words_mut(), &mut close),
+            raw::header(&mut image, notch),
+        ];
+        for word in words {
+            assert_eq!(Answer::from_word(word).status, status, "notch {notch}");
+        }
+    }
 }

@@ -14,6 +14,8 @@ use crate::Model;
 /// What one CIO call asks for, the buffer that it is lent included.
 #[derive(Debug)]
 pub struct Request<'a> {
+    /// 0 is open, any other value closed.
+    pub notch: u8,
     pub channel: u8,
     pub command: u8,
     /// Which way a file is opened.
@@ -25,15 +27,22 @@ pub struct Request<'a> {
 }
 
 impl<'a> Request<'a> {
-    /// A command that needs neither direction nor name nor buffer: 0, and no bytes.
+    /// A command that needs neither direction nor name nor buffer: 0, and no bytes. The notch is
+    /// open.
     pub fn new(channel: u8, command: u8) -> Request<'a> {
         Request {
+            notch: 0,
             channel,
             command,
             direction: 0,
             name: &[],
             buffer: &mut [],
         }
+    }
+
+    /// The same with a notch.
+    pub fn notch(self, notch: u8) -> Request<'a> {
+        Request { notch, ..self }
     }
 
     /// The same with a direction.
@@ -89,6 +98,15 @@ impl Command {
     /// All but get, put and close need a closed channel.
     fn needs_closed(self) -> bool {
         !matches!(self, Command::Get | Command::Put | Command::Close)
+    }
+
+    /// Put, rename, delete, lock, unlock and format are there to change the disk, an open or a close
+    /// not always.
+    fn changes_disk(self) -> bool {
+        !matches!(
+            self,
+            Command::Open | Command::Get | Command::Close | Command::Status
+        )
     }
 }
 
@@ -156,19 +174,22 @@ impl<V: Variant> Model<V> {
         let record = *table.get(number).ok_or(Status::NoSuchChannel)?;
         let command = self.command(request.command)?;
         let before = Channel::of(record).ok_or(Status::Malformed)?;
+        if self.wrong(Fault::NotchBeforeChannel) && command.changes_disk() {
+            self.require_open_notch(request.notch)?;
+        }
         self.require_closed(table, before, command)?;
         let mut channel = before;
         let outcome = match command {
             Command::Open => self.open(disk, table, request, &mut channel),
             Command::Get => self.get_from(disk, &mut channel, request.buffer),
-            Command::Put => self.put_to(disk, &mut channel, request.buffer),
-            Command::Close => self.close(disk, &mut channel),
+            Command::Put => self.put_to(disk, request.notch, &mut channel, request.buffer),
+            Command::Close => self.close(disk, request.notch, &mut channel),
             Command::Status => self.status(disk, request.name),
-            Command::Rename => self.rename(disk, table, request.name),
-            Command::Delete => self.delete(disk, table, request.name),
-            Command::Lock => self.set_lock(disk, table, request.name, LOCKED),
-            Command::Unlock => self.set_lock(disk, table, request.name, 0),
-            Command::Format => self.format(disk, table, request.name),
+            Command::Rename => self.rename(disk, table, request),
+            Command::Delete => self.delete(disk, table, request),
+            Command::Lock => self.set_lock(disk, table, request, LOCKED),
+            Command::Unlock => self.set_lock(disk, table, request, 0),
+            Command::Format => self.format(disk, table, request),
         };
         self.store(&mut table[number], before, channel);
         outcome
@@ -210,13 +231,34 @@ impl<V: Variant> Model<V> {
         if self.wrong(Fault::DirectionAfterName) {
             self.file_name(request.name)?;
         }
+        if self.wrong(Fault::NotchBeforeDirection) && request.direction != 4 {
+            self.require_open_notch(request.notch)?;
+        }
         let direction = Direction::of(request.direction)?;
-        let name = self.file_name(request.name)?;
+        let name = match direction {
+            Direction::Read => self.file_name(request.name)?,
+            Direction::Write => self.name_to_change(request, Self::file_name)?,
+        };
         *channel = match direction {
             Direction::Read => Channel::Reading(self.open_read(disk, table, &name)?),
             Direction::Write => Channel::Writing(self.open_write(disk, table, &name)?),
         };
         Ok(0)
+    }
+
+    /// The name of a command that changes the disk, as one of the readers takes it: 144 first.
+    fn name_to_change<N>(
+        self,
+        request: &Request,
+        read: impl FnOnce(Self, &[u8]) -> Result<N, Status>,
+    ) -> Result<N, Status> {
+        if self.wrong(Fault::NotchAfterName) {
+            let name = read(self, request.name)?;
+            self.require_open_notch(request.notch)?;
+            return Ok(name);
+        }
+        self.require_open_notch(request.notch)?;
+        read(self, request.name)
     }
 
     /// Open for reading: before the first byte, with the slot's count of sectors yet to enter.
@@ -279,14 +321,21 @@ impl<V: Variant> Model<V> {
         Ok(slot)
     }
 
-    /// Close frees the channel whatever it answers. A writing one's flag `$43` becomes `$42`;
-    /// without that flag, or with a slot above 63, the answer is 164.
-    fn close(self, disk: &mut impl Density, channel: &mut Channel) -> Outcome {
+    /// Close frees the channel unless it answers 144, as it does to a writing one under a closed
+    /// notch. A writing one's flag `$43` becomes `$42`; without that flag, or with a slot above 63,
+    /// the answer is 164.
+    fn close(self, disk: &mut impl Density, notch: u8, channel: &mut Channel) -> Outcome {
         let Channel::Writing(writing) = *channel else {
+            if self.wrong(Fault::NotchOfAnyClose) {
+                self.require_open_notch(notch)?;
+            }
             *channel = Channel::Closed;
             return Ok(0);
         };
         let slot = as_slot(writing.slot).filter(|&slot| flag(disk, slot) == OUTPUT_FILE);
+        if slot.is_some() || !self.wrong(Fault::NotchAfterOutputFlag) {
+            self.require_open_to_close(notch, channel)?;
+        }
         if slot.is_some() || !self.wrong(Fault::CloseKeepsChannel) {
             *channel = Channel::Closed;
         }
@@ -295,6 +344,15 @@ impl<V: Variant> Model<V> {
             set_flag(disk, slot, FILE);
         }
         Ok(0)
+    }
+
+    /// 144, with which a writing channel stays open.
+    fn require_open_to_close(self, notch: u8, channel: &mut Channel) -> Result<(), Status> {
+        let open = self.require_open_notch(notch);
+        if open.is_err() && self.wrong(Fault::ProtectedCloseFrees) {
+            *channel = Channel::Closed;
+        }
+        open
     }
 
     /// Status of a name: 170, 167 or 1.
@@ -308,8 +366,8 @@ impl<V: Variant> Model<V> {
     }
 
     /// Rename writes the eleven bytes.
-    fn rename(self, disk: &mut impl Density, table: &Table, names: &[u8]) -> Outcome {
-        let (old, new) = self.two_names(names)?;
+    fn rename(self, disk: &mut impl Density, table: &Table, request: &Request) -> Outcome {
+        let (old, new) = self.name_to_change(request, Self::two_names)?;
         let slot = self.found_on_good_table(disk, &old)?;
         self.require_unlocked_unheld(disk, table, slot)?;
         let taken = self
@@ -324,8 +382,8 @@ impl<V: Variant> Model<V> {
     }
 
     /// Delete frees the chain and sets the flag to `$80`; all else in the slot stays.
-    fn delete(self, disk: &mut impl Density, table: &Table, name: &[u8]) -> Outcome {
-        let name = self.file_name(name)?;
+    fn delete(self, disk: &mut impl Density, table: &Table, request: &Request) -> Outcome {
+        let name = self.name_to_change(request, Self::file_name)?;
         let slot = self.found_on_good_table(disk, &name)?;
         self.require_unlocked_unheld(disk, table, slot)?;
         let clean = self.require_clean_chain(disk, slot);
@@ -344,8 +402,14 @@ impl<V: Variant> Model<V> {
     }
 
     /// Lock sets `$20`, unlock clears it. A locked file is not refused.
-    fn set_lock(self, disk: &mut impl Density, table: &Table, name: &[u8], lock: u8) -> Outcome {
-        let name = self.file_name(name)?;
+    fn set_lock(
+        self,
+        disk: &mut impl Density,
+        table: &Table,
+        request: &Request,
+        lock: u8,
+    ) -> Outcome {
+        let name = self.name_to_change(request, Self::file_name)?;
         let slot = self.found_on_good_table(disk, &name)?;
         if self.wrong(Fault::LockOfLocked) && flag(disk, slot) & LOCKED != 0 {
             return Err(Status::Locked.into());
@@ -363,8 +427,8 @@ impl<V: Variant> Model<V> {
     }
 
     /// Format: `D:` alone, and no channel open.
-    fn format(self, disk: &mut impl Density, table: &Table, name: &[u8]) -> Outcome {
-        self.device_alone(name)?;
+    fn format(self, disk: &mut impl Density, table: &Table, request: &Request) -> Outcome {
+        self.name_to_change(request, Self::device_alone)?;
         let open = table.iter().any(|record| record[0] != 0);
         if open && !self.wrong(Fault::FormatUnderChannel) {
             return Err(Status::Held.into());

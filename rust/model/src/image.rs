@@ -233,13 +233,17 @@ impl<V: Variant> Model<V> {
         header
     }
 
-    /// Writes the header into an image of either ATR length, whatever is there: 203.
-    pub(crate) fn run_header(self, image: &mut [u8]) -> Outcome {
+    /// Writes the header into an image of either ATR length, whatever is there: 203, then 144.
+    pub(crate) fn run_header(self, image: &mut [u8], notch: u8) -> Outcome {
+        if self.wrong(Fault::NotchBeforeLength) {
+            self.require_open_notch(notch)?;
+        }
         let kind = match Kind::of_length(image.len()).ok_or(Status::WrongImage)? {
             Kind::Raw if self.wrong(Fault::HeaderIntoRaw) => Kind::AtrSingle,
             kind => kind,
         };
         let header = self.header_of(kind).ok_or(Status::WrongImage)?;
+        self.require_open_notch(notch)?;
         if self.wrong(Fault::OldHeaderLookedAt) {
             self.kind(image)?;
         }

@@ -1,11 +1,11 @@
 //! A second program for the rules of timing-desk disks.
 //!
 //! The paper *Timing-desk disks: what is served, and the precise rules* says what every call on
-//! a disk image does; of *Later customer requests* P8 takes its row 161 out and P13 adds ATR
-//! images and double density. This crate does what they say, in plain Rust, written from them
-//! and from nothing else. It shares no code with the proved library, which makes it of use twice:
-//! the two are compared byte for byte on many disks (package `compare`), and it is the measure
-//! for the library's speed.
+//! a disk image does; of *Later customer requests* P4 adds the write-protect notch, P8 takes the
+//! row 161 out and P13 adds ATR images and double density. This crate does what they say, in
+//! plain Rust, written from them and from nothing else. It shares no code with the proved
+//! library, which makes it of use twice: the two are compared byte for byte on many disks (package
+//! `compare`), and it is the measure for the library's speed.
 //!
 //! The modules follow the paper's sections:
 //!
@@ -18,6 +18,7 @@
 //! | [`names`] | Commands: names |
 //! | `commands`, `transfer` | Commands, status numbers and their order |
 //! | `recovery`, `sectors`, `showing` | Recovery, Sectors, Showing |
+//! | `notch` | request P4: the write-protect notch |
 //! | [`status`] | the status numbers |
 //!
 //! There are eight calls, those of the C interface with slices in place of pointers and lengths,
@@ -51,6 +52,7 @@ pub mod fault;
 pub mod file;
 pub mod image;
 pub mod names;
+mod notch;
 mod recovery;
 mod sectors;
 mod showing;
@@ -81,15 +83,20 @@ impl<V: Variant> Model<V> {
 
     /// Takes back a deleted file; the count is the number of its sectors.
     #[inline(never)]
-    pub fn recover(self, image: &mut [u8], slot: u8) -> u64 {
-        number(self.run_recover(image, slot))
+    pub fn recover(self, image: &mut [u8], notch: u8, slot: u8) -> u64 {
+        number(self.run_recover(image, notch, slot))
     }
 
     /// Reads (`$52`) or writes (`$50`, `$57`) one sector.
     #[inline(never)]
+    #[allow(
+        clippy::too_many_arguments,
+        reason = "those of the C interface, so that both sides are measured alike"
+    )]
     pub fn sector(
         self,
         image: &mut [u8],
+        notch: u8,
         device: u8,
         unit: u8,
         command: u8,
@@ -97,6 +104,7 @@ impl<V: Variant> Model<V> {
         buffer: &mut [u8],
     ) -> u64 {
         let request = sectors::Request {
+            notch,
             device,
             unit,
             command,
@@ -123,8 +131,8 @@ impl<V: Variant> Model<V> {
 
     /// A put that advances one lent channel record of five words.
     #[inline(never)]
-    pub fn thin_put(self, image: &mut [u8], words: &mut [u16], buffer: &[u8]) -> u64 {
-        number(self.run_thin_put(image, words, buffer))
+    pub fn thin_put(self, image: &mut [u8], notch: u8, words: &mut [u16], buffer: &[u8]) -> u64 {
+        number(self.run_thin_put(image, notch, words, buffer))
     }
 
     /// Takes a name apart into its eleven padded bytes, or answers its refusal.
@@ -135,8 +143,8 @@ impl<V: Variant> Model<V> {
 
     /// Writes the header of an ATR image.
     #[inline(never)]
-    pub fn header(self, image: &mut [u8]) -> u64 {
-        number(self.run_header(image))
+    pub fn header(self, image: &mut [u8], notch: u8) -> u64 {
+        number(self.run_header(image, notch))
     }
 }
 
@@ -146,20 +154,21 @@ pub fn cio(image: &mut [u8], table: &mut [u16], request: &mut Request) -> u64 {
 }
 
 /// [`Model::recover`] without a fault.
-pub fn recover(image: &mut [u8], slot: u8) -> u64 {
-    RIGHT.recover(image, slot)
+pub fn recover(image: &mut [u8], notch: u8, slot: u8) -> u64 {
+    RIGHT.recover(image, notch, slot)
 }
 
 /// [`Model::sector`] without a fault.
 pub fn sector(
     image: &mut [u8],
+    notch: u8,
     device: u8,
     unit: u8,
     command: u8,
     sector: u16,
     buffer: &mut [u8],
 ) -> u64 {
-    RIGHT.sector(image, device, unit, command, sector, buffer)
+    RIGHT.sector(image, notch, device, unit, command, sector, buffer)
 }
 
 /// [`Model::show`] without a fault.
@@ -173,8 +182,8 @@ pub fn thin_get(image: &[u8], words: &mut [u16], buffer: &mut [u8]) -> u64 {
 }
 
 /// [`Model::thin_put`] without a fault.
-pub fn thin_put(image: &mut [u8], words: &mut [u16], buffer: &[u8]) -> u64 {
-    RIGHT.thin_put(image, words, buffer)
+pub fn thin_put(image: &mut [u8], notch: u8, words: &mut [u16], buffer: &[u8]) -> u64 {
+    RIGHT.thin_put(image, notch, words, buffer)
 }
 
 /// [`Model::name`] without a fault.
@@ -183,6 +192,6 @@ pub fn name(name: &[u8], eleven: &mut [u8]) -> u64 {
 }
 
 /// [`Model::header`] without a fault.
-pub fn header(image: &mut [u8]) -> u64 {
-    RIGHT.header(image)
+pub fn header(image: &mut [u8], notch: u8) -> u64 {
+    RIGHT.header(image, notch)
 }

@@ -10,16 +10,18 @@ use crate::Model;
 
 impl<V: Variant> Model<V> {
     /// 203 and 205, then the recovery.
-    pub(crate) fn run_recover(self, image: &mut [u8], slot: u8) -> Outcome {
-        on_disk!(self.disk_mut(image)?, disk => self.recover_slot(disk, slot))
+    pub(crate) fn run_recover(self, image: &mut [u8], notch: u8, slot: u8) -> Outcome {
+        on_disk!(self.disk_mut(image)?, disk => self.recover_slot(disk, notch, slot))
     }
 
-    /// In order: 170 for a slot above 63, at or past the first zero flag, or not deleted;
+    /// In order: 144; 170 for a slot above 63, at or past the first zero flag, or not deleted;
     /// 163; 165; 201; 202. The count is the number of sectors taken back.
-    fn recover_slot(self, disk: &mut impl Density, slot: u8) -> Outcome {
-        if !self.is_deleted(disk, slot) {
-            return Err(Status::NotFound.into());
+    fn recover_slot(self, disk: &mut impl Density, notch: u8, slot: u8) -> Outcome {
+        if self.wrong(Fault::NotchAfterSlot) {
+            self.require_deleted(disk, slot)?;
         }
+        self.require_open_notch(notch)?;
+        self.require_deleted(disk, slot)?;
         self.require_good_table(disk)?;
         let name = slot_name(disk, slot);
         if !is_legal(&name) && !self.wrong(Fault::RecoverIllegalName) {
@@ -43,10 +45,11 @@ impl<V: Variant> Model<V> {
         })
     }
 
-    /// A slot of the directory with `$80`, before the first zero flag.
-    fn is_deleted(self, disk: &impl Density, slot: u8) -> bool {
-        slot < SLOTS
+    /// 170 unless it is a slot of the directory with `$80`, before the first zero flag.
+    fn require_deleted(self, disk: &impl Density, slot: u8) -> Result<(), Status> {
+        let deleted = slot < SLOTS
             && (self.wrong(Fault::RecoverPastZero) || (0..slot).all(|slot| flag(disk, slot) != 0))
-            && flag(disk, slot) & DELETED != 0
+            && flag(disk, slot) & DELETED != 0;
+        deleted.then_some(()).ok_or(Status::NotFound)
     }
 }

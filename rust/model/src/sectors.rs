@@ -10,8 +10,13 @@ use crate::Model;
 const DEVICE: u8 = 0x31;
 const UNIT: u8 = 1;
 
+/// The commands: a read, and two writes with the same effect.
+const READ: u8 = 0x52;
+const WRITES: [u8; 2] = [0x50, 0x57];
+
 /// What one sector call asks for, apart from what it is lent.
 pub(crate) struct Request {
+    pub notch: u8,
     pub device: u8,
     pub unit: u8,
     pub command: u8,
@@ -43,27 +48,42 @@ impl<V: Variant> Model<V> {
         on_disk!(disk?, disk => self.move_sector(disk, request, buffer))
     }
 
-    /// 138; 139 for another command or no sector of the disk; 204 for a buffer that has not the
-    /// sector's own size, which is reported. `$50` and `$57` have the same effect.
+    /// 138; 139 for another command or no sector of the disk; 144 for a write; 204 for a buffer
+    /// that has not the sector's own size, which is reported.
     fn move_sector<D: Density>(self, disk: &mut D, request: Request, buffer: &mut [u8]) -> Outcome {
         request.require_unit()?;
         let Request {
-            command, sector, ..
+            notch,
+            command,
+            sector,
+            ..
         } = request;
         let size = self.sector_size::<D>(sector);
-        if self.wrong(Fault::BufferFirst) && buffer.len() != size {
-            return Err(Status::WrongBuffer.into());
+        let size_fits = (buffer.len() == size)
+            .then_some(())
+            .ok_or(Status::WrongBuffer);
+        if self.wrong(Fault::BufferFirst) {
+            size_fits?;
         }
+        let protected = WRITES.contains(&command) || self.wrong(Fault::NotchOfSectorReads);
+        if self.wrong(Fault::NotchBeforeSector) && protected {
+            self.require_open_notch(notch)?;
+        }
+        let served = command == READ || WRITES.contains(&command);
         let last = SECTORS - u16::from(self.wrong(Fault::LastSector));
-        if !matches!(command, 0x50 | 0x52 | 0x57) || !(1..=last).contains(&sector) {
+        if !served || !(1..=last).contains(&sector) {
             return Err(Status::WrongSector.into());
         }
-        if buffer.len() != size {
-            return Err(Status::WrongBuffer.into());
+        if self.wrong(Fault::NotchAfterBuffer) {
+            size_fits?;
         }
+        if protected {
+            self.require_open_notch(notch)?;
+        }
+        size_fits?;
         let at = self.sector_place::<D>(sector);
         let place = &mut disk[at..at + size];
-        if command == 0x52 {
+        if command == READ {
             buffer.copy_from_slice(place);
         } else {
             let written = size - usize::from(self.wrong(Fault::WriteShort));

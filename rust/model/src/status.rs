@@ -24,6 +24,8 @@ pub enum Status {
     WriteOnly = 131,
     /// A put on a reading channel.
     ReadOnly = 135,
+    /// The notch is closed, and the call could change the image.
+    Protected = 144,
     /// The name does not begin with `D`, an optional digit and a colon.
     NoSuchDevice = 130,
     /// The digit is not 1.

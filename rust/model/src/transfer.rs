@@ -31,19 +31,26 @@ impl<V: Variant> Model<V> {
         }
     }
 
-    /// A put on a channel in any state.
+    /// A put on a channel in any state: 133, 135, 144.
     pub(crate) fn put_to(
         self,
         disk: &mut impl Density,
+        notch: u8,
         channel: &mut Channel,
         bytes: &[u8],
     ) -> Outcome {
-        match channel {
-            Channel::Reading(_) if self.wrong(Fault::NoBytesFirst) && bytes.is_empty() => Ok(0),
-            Channel::Closed => Err(Status::ChannelClosed.into()),
-            Channel::Reading(_) => Err(Status::ReadOnly.into()),
-            Channel::Writing(writing) => self.put(disk, writing, bytes),
+        let writing = match channel {
+            Channel::Reading(_) if self.wrong(Fault::NoBytesFirst) && bytes.is_empty() => {
+                return Ok(0)
+            }
+            Channel::Closed => return Err(Status::ChannelClosed.into()),
+            Channel::Reading(_) => return Err(Status::ReadOnly.into()),
+            Channel::Writing(writing) => writing,
+        };
+        if !(self.wrong(Fault::NotchAfterNoBytes) && bytes.is_empty()) {
+            self.require_open_notch(notch)?;
         }
+        self.put(disk, writing, bytes)
     }
 
     /// Get fills the buffer, or stops with 136 where the file ends and with 164 where it cannot go
@@ -214,11 +221,22 @@ impl<V: Variant> Model<V> {
     }
 
     /// The thin put: one lent record, advanced.
-    pub(crate) fn run_thin_put(self, image: &mut [u8], words: &mut [u16], bytes: &[u8]) -> Outcome {
+    pub(crate) fn run_thin_put(
+        self,
+        image: &mut [u8],
+        notch: u8,
+        words: &mut [u16],
+        bytes: &[u8],
+    ) -> Outcome {
         let (record, before) = as_record(words)?;
         let disk = self.disk_mut(image)?;
+        let notch = if self.wrong(Fault::ThinPutUnprotected) {
+            0
+        } else {
+            notch
+        };
         let mut channel = before;
-        let outcome = on_disk!(disk, disk => self.put_to(disk, &mut channel, bytes));
+        let outcome = on_disk!(disk, disk => self.put_to(disk, notch, &mut channel, bytes));
         if !self.wrong(Fault::ThinKeepsRecord) {
             self.store(record, before, channel);
         }

@@ -1,4 +1,5 @@
-//! Request P13: which images are served, the header of an ATR image and its writer.
+//! Request P13: which images are served, the header of an ATR image and its writer; P4: the
+//! writer and the notch.
 
 use model::image::Kind;
 use model::Request;
@@ -23,28 +24,31 @@ fn format<'a>() -> Request<'a> {
 
 /// What every call answers that is refused for its image, a showing apart. All else that could be
 /// refused is: a channel above 7, another device, a slot above 63, closed records.
-fn refusals(image: &mut [u8]) -> [u64; 6] {
+fn refusals(image: &mut [u8], notch: u8) -> [u64; 6] {
     [
-        model::cio(image, &mut [0; 40], &mut Request::new(8, 0)),
-        model::cio(image, &mut [0; 40], &mut format()),
-        model::recover(image, 64),
-        model::sector(image, 0, 0, 0, 0, &mut []),
+        model::cio(image, &mut [0; 40], &mut Request::new(8, 0).notch(notch)),
+        model::cio(image, &mut [0; 40], &mut format().notch(notch)),
+        model::recover(image, notch, 64),
+        model::sector(image, notch, 0, 0, 0x50, 0, &mut []),
         model::thin_get(image, &mut [0; 5], &mut []),
-        model::thin_put(image, &mut [0; 5], &[]),
+        model::thin_put(image, notch, &mut [0; 5], &[]),
     ]
 }
 
-/// Every call is refused with the status, showing gives its empty part, and nothing changes.
+/// Every call is refused with the status, whatever the notch, showing gives its empty part, and
+/// nothing changes.
 fn assert_refused(image: &mut [u8], status: u64) {
     let before = image.to_vec();
-    assert_eq!(refusals(image), [status; 6]);
+    assert_eq!(refusals(image, 0), [status; 6]);
+    assert_eq!(refusals(image, 1), [status; 6]);
     assert_eq!(model::show(image, 0, 4), 0);
     assert!(image == before);
 }
 
 /// The image is served: a channel above 7 is the first thing that is refused.
 fn assert_served(image: &mut [u8]) {
-    assert_eq!(refusals(image), [134, 1, 170, 138, 133, 133]);
+    assert_eq!(refusals(image, 0), [134, 1, 170, 138, 133, 133]);
+    assert_eq!(refusals(image, 1), [134, 144, 144, 138, 133, 133]);
     assert_ne!(model::show(image, 0, 4), 0);
 }
 
@@ -116,7 +120,7 @@ fn row_255_stands_before_205() {
     let mut status = Request::new(0, 13).name(b"D:A\x9b");
     assert_eq!(model::cio(&mut image, &mut [0; 39], &mut status), 255);
     assert_eq!(model::thin_get(&image, &mut [3; 5], &mut []), 255);
-    assert_eq!(model::thin_put(&mut image, &mut [0; 6], &[]), 255);
+    assert_eq!(model::thin_put(&mut image, 0, &mut [0; 6], &[]), 255);
 }
 
 #[test]
@@ -124,13 +128,13 @@ fn the_header_is_written_over_anything() {
     for (kind, length, header) in ATR {
         for old in [0x00, 0xff, 0x96] {
             let mut image = vec![old; length];
-            assert_eq!(model::header(&mut image), 1);
+            assert_eq!(model::header(&mut image, 0), 1);
             assert_eq!(image[..7], header);
             assert_eq!(image[7..16], [0; 9]);
             assert!(image[16..].iter().all(|&byte| byte == old));
         }
         let mut image = kind.fresh();
-        assert_eq!(model::header(&mut image), 1);
+        assert_eq!(model::header(&mut image, 0), 1);
         assert!(image == kind.fresh());
     }
 }
@@ -141,8 +145,21 @@ fn no_header_is_written_into_an_image_of_another_length() {
         0, 15, 16, 92_159, 92_160, 92_161, 92_175, 92_177, 183_936, 183_951, 183_953,
     ] {
         let mut image = vec![0x96; length];
-        assert_eq!(model::header(&mut image), 203);
-        assert_eq!(image, vec![0x96; length]);
+        for notch in [0, 1] {
+            assert_eq!(model::header(&mut image, notch), 203);
+            assert_eq!(image, vec![0x96; length]);
+        }
+    }
+}
+
+#[test]
+fn no_header_is_written_with_the_notch_closed() {
+    for (_, length, _) in ATR {
+        for notch in 1..=255 {
+            let mut image = vec![0x96; length];
+            assert_eq!(model::header(&mut image, notch), 144);
+            assert!(image.iter().all(|&byte| byte == 0x96));
+        }
     }
 }
 

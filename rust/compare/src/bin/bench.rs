@@ -44,6 +44,9 @@ const UNIT: u8 = 1;
 const READ_SECTOR: u8 = 0x52;
 const WRITE_SECTOR: u8 = 0x57;
 
+/// The notch of every call.
+const OPEN_NOTCH: u8 = 0;
+
 /// The answer of a call that succeeds and counts nothing.
 const SUCCESS: u64 = 1;
 
@@ -287,9 +290,12 @@ fn transfers(kind: Kind, command: u8, length: usize, thin: bool) -> Line {
         let mut request = request(command).buffer(&mut buffer);
         time(calls, transferred(length), || match (thin, command) {
             (false, _) => desk.cio(side, &mut request),
-            (true, PUT) => {
-                side.thin_put(&mut desk.image, &mut desk.table[..RECORD], request.buffer)
-            }
+            (true, PUT) => side.thin_put(
+                &mut desk.image,
+                OPEN_NOTCH,
+                &mut desk.table[..RECORD],
+                request.buffer,
+            ),
             (true, _) => side.thin_get(&mut desk.image, &mut desk.table[..RECORD], request.buffer),
         })
     })
@@ -369,7 +375,7 @@ fn recover_whole(kind: Kind) -> Line {
     let start = start.with(request(DELETE).name(&file_name(0)));
     let answer = SUCCESS + 256 * u64::from(DATA_SECTORS);
     Line::new("recovery of 707 sectors", start, move |side, desk| {
-        time(1, answer, || side.recover(&mut desk.image, 0))
+        time(1, answer, || side.recover(&mut desk.image, OPEN_NOTCH, 0))
     })
 }
 
@@ -385,7 +391,7 @@ fn sector(kind: Kind, command: u8) -> Line {
         let mut buffer = Bytes::new(0x5a, size);
         let (image, buffer): (&mut [u8], &mut [u8]) = (&mut desk.image, &mut buffer);
         time(CALLS, transferred(size), || {
-            side.sector(image, DEVICE, UNIT, command, SECTOR, buffer)
+            side.sector(image, OPEN_NOTCH, DEVICE, UNIT, command, SECTOR, buffer)
         })
     })
 }

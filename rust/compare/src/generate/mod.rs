@@ -53,6 +53,8 @@ pub struct Generator {
     planned: VecDeque<Step>,
     /// Steps still to decide on.
     left: usize,
+    /// Calls that still have the notch closed.
+    protected: usize,
 }
 
 impl Generator {
@@ -91,6 +93,7 @@ impl Generator {
             pool: Vec::new(),
             planned: VecDeque::new(),
             left,
+            protected: 0,
         };
         if kind != Kind::Raw {
             generator.planned.push_back(Step::Fresh(kind));
@@ -146,7 +149,32 @@ impl Generator {
             if !(served && whole) && self.random.chance(200) {
                 call = self.refused_call();
             }
-            self.planned.push_back(Step::Call { call, lengths });
+            let notch = self.notch(&call);
+            self.planned.push_back(Step::Call {
+                call,
+                notch,
+                lengths,
+            });
+        }
+    }
+
+    /// Mostly an open notch, so that files are made; a closed one for a single call, or for some
+    /// calls that follow on each other.
+    fn notch(&mut self, call: &Call) -> u8 {
+        if self.protected == 0 && self.random.chance(5) {
+            self.protected = self.random.between(2, 15);
+        }
+        let goes_on = self.protected > 0;
+        self.protected = self.protected.saturating_sub(1);
+        let often = match call {
+            Call::Sector { .. } => 300,
+            Call::ThinPut { .. } | Call::Header => 200,
+            _ => 40,
+        };
+        if goes_on || self.random.chance(often) {
+            self.random.pick(&[1, 1, 2, 128, 254, 255])
+        } else {
+            0
         }
     }
 
@@ -277,7 +305,12 @@ impl Generator {
             } else {
                 self.call(world)
             };
-            self.planned.push_back(call.into());
+            let notch = self.notch(&call);
+            self.planned.push_back(Step::Call {
+                call,
+                notch,
+                lengths: None,
+            });
             return;
         }
         let number = self.random.below(8);

@@ -56,13 +56,20 @@ fn shell_serves_an_image_that_may_not_be_written_and_refuses_to_save_it() {
     let folder = Folder::with_disk(two_files);
     let before = folder.read("disk");
     folder.permit("disk", 0o444);
-    let Some(output) = folder.run_bound(&["shell", "disk"], b"delete B\nsave\nsave copy\n") else {
+    let script = b"delete B\nnotch open\ndelete B\nsave\nsave copy\n";
+    let Some(output) = folder.run_bound(&["shell", "disk"], script) else {
         return;
     };
     let printed = String::from_utf8(output.stdout).unwrap();
-    assert!(printed.starts_with("1 success; count 0\n? "), "{printed}");
+    let expected = "\
+the notch is closed: the file may not be written
+144 the write-protect notch is closed; count 0
+the notch is open, but save leaves the file alone: the file may not be written
+1 success; count 0
+? ";
+    assert!(printed.starts_with(expected), "{printed}");
     assert!(
-        printed.ends_with("disk: may not be written\nsaved copy\n"),
+        printed.ends_with("disk: left alone: the file may not be written\nsaved copy\n"),
         "{printed}"
     );
     assert_eq!(output.status.code(), Some(1));

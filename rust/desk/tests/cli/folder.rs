@@ -104,9 +104,9 @@ impl Folder {
 
     /// The message of a command that fails; it leaves every file as it was and adds none.
     pub fn refuse(&self, arguments: &[&str]) -> String {
-        let before = self.contents();
+        let before = self.states();
         let output = self.run_with(arguments, b"");
-        let after = self.contents();
+        let after = self.states();
         assert!(before == after, "{arguments:?} changed a file");
         assert_eq!(output.status.code(), Some(1), "{arguments:?}");
         assert_eq!(String::from_utf8_lossy(&output.stdout), "", "{arguments:?}");
@@ -122,13 +122,40 @@ impl Folder {
         )
     }
 
-    /// Every file of the folder with its bytes.
-    fn contents(&self) -> Vec<(String, Option<Vec<u8>>)> {
-        let bytes = |name: &String| fs::read(self.0.join(name)).ok();
-        self.names()
-            .into_iter()
-            .map(|name| (name.clone(), bytes(&name)))
-            .collect()
+    /// A file, a link or the folder itself, `.`, as it stands.
+    pub fn state(&self, name: &str) -> State {
+        let path = self.0.join(name);
+        let file = fs::symlink_metadata(&path).unwrap();
+        State {
+            bytes: fs::read(&path).ok(),
+            inode: file.ino(),
+            written: (file.mtime(), file.mtime_nsec()),
+            changed: (file.ctime(), file.ctime_nsec()),
+        }
+    }
+
+    /// Every file of the folder as it stands.
+    fn states(&self) -> Vec<(String, State)> {
+        let state = |name: String| (name.clone(), self.state(&name));
+        self.names().into_iter().map(state).collect()
+    }
+}
+
+/// What can be seen of a file: its bytes, where it has some that can be read, and whether it was written or replaced.
+#[derive(PartialEq, Debug)]
+pub struct State {
+    bytes: Option<Vec<u8>>,
+    inode: u64,
+    /// When its bytes were last written: seconds and nanoseconds.
+    written: (i64, i64),
+    /// When anything of it was last changed.
+    changed: (i64, i64),
+}
+
+impl State {
+    /// Whether it is the same file and was not written between; it may have got another owner or other permissions.
+    pub fn was_not_written(&self, now: &State) -> bool {
+        (&self.bytes, self.inode, self.written) == (&now.bytes, now.inode, now.written)
     }
 }
 

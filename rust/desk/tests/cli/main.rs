@@ -4,5 +4,6 @@ mod files;
 mod folder;
 mod images;
 mod kinds;
+mod notch;
 mod pasted;
 mod shell;

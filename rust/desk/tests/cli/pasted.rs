@@ -50,6 +50,7 @@ fn answers(printed: &str) -> Vec<String> {
 #[test]
 fn every_line_of_the_comparison_answers_as_the_model_does() {
     let folder = Folder::new();
+    let mut protected = 0;
     for seed in 0..60 {
         let mut world = World::fresh(Kind::Raw);
         let mut generator = Generator::new(seed);
@@ -66,7 +67,10 @@ fn every_line_of_the_comparison_answers_as_the_model_does() {
         assert_eq!(status, Some(0), "{printed}");
         assert_eq!(answers(&printed), wanted, "seed {seed}");
         assert!(folder.read(&image) == world.image(), "seed {seed}");
+        let refused = |answer: &&String| answer.starts_with("144;");
+        protected += wanted.iter().filter(refused).count();
     }
+    assert!(protected > 0, "no call has the notch closed");
 }
 
 /// The cases that the comparison prints for two faults of the model, where it is lent an image of another length.

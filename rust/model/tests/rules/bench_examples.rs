@@ -117,10 +117,7 @@ fn example_8_recovery() {
     desk.make(b"D:A\x9b", b"a");
     desk.make(b"D:B\x9b", b"b");
     assert_eq!(desk.cio(0, DELETE, 0, b"D:A\x9b"), (1, 0));
-    let mut between = Desk {
-        image: desk.image.clone(),
-        table: desk.table,
-    };
+    let mut between = desk.clone();
     assert_eq!(desk.recover(0), (1, 1));
     assert_eq!(desk.bytes(b"D:A\x9b"), b"a");
     assert!(is_sound(&desk.image, &desk.table));

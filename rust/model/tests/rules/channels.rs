@@ -218,19 +218,14 @@ fn thin_calls_advance_a_record() {
     assert_eq!(words, [1, 0, 5, 5, 1]);
     assert_eq!(desk.cio(0, OPEN, 8, b"D:B\x9b"), (1, 0));
     let mut words = [2, 1, 7, 3, 3];
-    assert_eq!(
-        answer(model::thin_put(&mut desk.image, &mut words, &[9; DATA])),
-        (1, DATA as u64)
-    );
+    let all = (1, DATA as u64);
+    assert_eq!(desk.thin_put(&mut words, &[9; DATA]), all);
     assert_eq!(
         words,
         [2, 1, 7, 3, 3],
         "not changed, so all five words stay"
     );
-    assert_eq!(
-        answer(model::thin_put(&mut desk.image, &mut words, &[9; DATA])),
-        (1, DATA as u64)
-    );
+    assert_eq!(desk.thin_put(&mut words, &[9; DATA]), all);
     assert_eq!(words, [2, 1, 8, 0, 0]);
     assert_eq!(desk.record(0), [2, 1, 7, 0, 0]);
 }

@@ -18,6 +18,9 @@ pub const LOCK: u8 = 35;
 pub const UNLOCK: u8 = 36;
 pub const FORMAT: u8 = 254;
 
+/// Device and unit of sector calls.
+pub const DRIVE: (u8, u8) = (0x31, 1);
+
 /// Bytes of the header, of a sector behind the third, and of its data.
 pub const HEADER: usize = match KIND {
     Kind::Raw => 0,
@@ -71,17 +74,20 @@ fn request(channel: u8, command: u8, direction: u8, name: &[u8]) -> Request<'_> 
         .name(name)
 }
 
+#[derive(Clone)]
 pub struct Desk {
     pub image: Vec<u8>,
     pub table: [u16; 40],
+    pub notch: u8,
 }
 
 impl Desk {
-    /// A fresh disk and a fresh table.
+    /// A fresh disk and a fresh table, and the notch open.
     pub fn new() -> Desk {
         Desk {
             image: KIND.fresh(),
             table: [0; 40],
+            notch: 0,
         }
     }
 
@@ -89,7 +95,8 @@ impl Desk {
         self.ask(request(channel, command, direction, name))
     }
 
-    fn ask(&mut self, mut request: Request) -> Answer {
+    fn ask(&mut self, request: Request) -> Answer {
+        let mut request = request.notch(self.notch);
         answer(model::cio(&mut self.image, &mut self.table, &mut request))
     }
 
@@ -122,7 +129,25 @@ impl Desk {
     }
 
     pub fn recover(&mut self, slot: u8) -> Answer {
-        answer(model::recover(&mut self.image, slot))
+        answer(model::recover(&mut self.image, self.notch, slot))
+    }
+
+    /// A sector call with a buffer of `$EE`.
+    pub fn sector(
+        &mut self,
+        (device, unit): (u8, u8),
+        command: u8,
+        sector: u16,
+        length: usize,
+    ) -> (Answer, Vec<u8>) {
+        let mut buffer = vec![0xee; length];
+        let (image, notch) = (&mut self.image, self.notch);
+        let number = model::sector(image, notch, device, unit, command, sector, &mut buffer);
+        (answer(number), buffer)
+    }
+
+    pub fn thin_put(&mut self, words: &mut [u16], bytes: &[u8]) -> Answer {
+        answer(model::thin_put(&mut self.image, self.notch, words, bytes))
     }
 
     /// The last three bytes of a sector.

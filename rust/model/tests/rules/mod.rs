@@ -4,4 +4,5 @@ mod common;
 
 mod bench_examples;
 mod channels;
+mod notch;
 mod status_table;

@@ -37,7 +37,7 @@ fn row_255_malformed_table() {
     assert_eq!(desk.refused(9, 0, 0, b""), 255);
     for words in [&mut [1; 4][..], &mut [1; 6], &mut [3; 5]] {
         assert_eq!(model::thin_get(&desk.image, words, &mut [0]), 255);
-        assert_eq!(model::thin_put(&mut desk.image, words, &[0]), 255);
+        assert_eq!(desk.thin_put(words, &[0]), (255, 0));
     }
     assert_eq!(model::name(b"E:", &mut [0; 10]), 255);
     assert_eq!(model::name(b"E:", &mut [0; 12]), 255);
@@ -54,9 +54,9 @@ fn row_203_image() {
         assert_eq!(desk.refused(8, 0, 0, b""), 203);
         assert_eq!(desk.refused(0, CLOSE, 0, b""), 203);
         assert_eq!(desk.recover(200), (203, 0));
-        assert_eq!(model::sector(&mut desk.image, 0, 0, 0, 0, &mut []), 203);
+        assert_eq!(desk.sector((0, 0), 0, 0, 0).0, (203, 0));
         assert_eq!(model::thin_get(&desk.image, &mut [0; 5], &mut []), 203);
-        assert_eq!(model::thin_put(&mut desk.image, &mut [0; 5], &[]), 203);
+        assert_eq!(desk.thin_put(&mut [0; 5], &[]), (203, 0));
         assert_eq!(model::show(&desk.image, 0, 4), 0);
     }
 }
@@ -116,7 +116,7 @@ fn row_133_closed_channel() {
     assert_eq!(desk.refused(0, PUT, 0, b""), 133);
     assert_eq!(desk.cio(0, GET, 0, b""), (133, 0));
     assert_eq!(model::thin_get(&desk.image, &mut [0; 5], &mut []), 133);
-    assert_eq!(model::thin_put(&mut desk.image, &mut [0; 5], &[]), 133);
+    assert_eq!(desk.thin_put(&mut [0; 5], &[]), (133, 0));
 }
 
 #[test]
@@ -130,7 +130,7 @@ fn row_131_135_other_direction() {
     assert_eq!(desk.cio(0, GET, 0, b""), (131, 0));
     assert_eq!(desk.cio(1, PUT, 0, b""), (135, 0));
     assert_eq!(model::thin_get(&desk.image, &mut [2; 5], &mut []), 131);
-    assert_eq!(model::thin_put(&mut desk.image, &mut [1; 5], &[]), 135);
+    assert_eq!(desk.thin_put(&mut [1; 5], &[]), (135, 0));
 }
 
 #[test]
@@ -436,10 +436,7 @@ fn row_169_162_no_room() {
     for file in 0..63 {
         desk.make(&[b'D', b':', b'A' + file / 8, b'0' + file % 8, 0], b"x");
     }
-    let mut last = Desk {
-        image: desk.image.clone(),
-        table: desk.table,
-    };
+    let mut last = desk.clone();
     desk.make(b"D:Z\0", b"x");
     assert_eq!(desk.refused(0, OPEN, 8, b"D:NEW\x9b"), 169);
     desk.image[slot(9)] = 0x80;
@@ -517,39 +514,28 @@ fn recovery_in_order() {
 #[test]
 fn sector_calls() {
     let mut desk = two_files();
-    let mut call = |device, unit, command, sector, length: usize| {
-        let mut buffer = vec![0xee; length];
-        (
-            answer(model::sector(
-                &mut desk.image,
-                device,
-                unit,
-                command,
-                sector,
-                &mut buffer,
-            )),
-            buffer,
-        )
-    };
-    assert_eq!(call(0x30, 1, 0, 0, 0).0, (138, 0));
-    assert_eq!(call(0x31, 2, 0, 0, 0).0, (138, 0));
-    assert_eq!(call(0x31, 1, 0x51, 1, 0).0, (139, 0));
-    assert_eq!(call(0x31, 1, 0x52, 0, 0).0, (139, 0));
-    assert_eq!(call(0x31, 1, 0x52, 721, 0).0, (139, 0));
-    assert_eq!(call(0x31, 1, 0x52, 4, SECTOR - 1).0, (204, 0));
-    assert_eq!(call(0x31, 1, 0x57, 4, SECTOR + 1).0, (204, 0));
-    assert_eq!(call(0x31, 1, 0x57, 4, 384 - SECTOR).0, (204, 0));
-    let (answer, bytes) = call(0x31, 1, 0x52, 4, SECTOR);
+    assert_eq!(desk.sector((0x30, 1), 0, 0, 0).0, (138, 0));
+    assert_eq!(desk.sector((0x31, 2), 0, 0, 0).0, (138, 0));
+    assert_eq!(desk.sector(DRIVE, 0x51, 1, 0).0, (139, 0));
+    assert_eq!(desk.sector(DRIVE, 0x52, 0, 0).0, (139, 0));
+    assert_eq!(desk.sector(DRIVE, 0x52, 721, 0).0, (139, 0));
+    assert_eq!(desk.sector(DRIVE, 0x52, 4, SECTOR - 1).0, (204, 0));
+    assert_eq!(desk.sector(DRIVE, 0x57, 4, SECTOR + 1).0, (204, 0));
+    assert_eq!(desk.sector(DRIVE, 0x57, 4, 384 - SECTOR).0, (204, 0));
+    let (answer, bytes) = desk.sector(DRIVE, 0x52, 4, SECTOR);
     assert_eq!(answer, (1, SECTOR as u64));
     assert_eq!([bytes[0], bytes[SECTOR - 1]], [b'a', 1]);
-    assert_eq!(call(0x31, 1, 0x57, 720, SECTOR).0, (1, SECTOR as u64));
+    assert_eq!(desk.sector(DRIVE, 0x57, 720, SECTOR).0, (1, SECTOR as u64));
     // The first three have 128 bytes in either density.
     for number in 1..=3 {
-        assert_eq!(call(0x31, 1, 0x52, number, 128), ((1, 128), vec![0; 128]));
-        assert_eq!(call(0x31, 1, 0x50, number, 256).0, (204, 0));
+        assert_eq!(
+            desk.sector(DRIVE, 0x52, number, 128),
+            ((1, 128), vec![0; 128])
+        );
+        assert_eq!(desk.sector(DRIVE, 0x50, number, 256).0, (204, 0));
     }
-    assert_eq!(call(0x31, 1, 0x50, 1, 128).0, (1, 128));
-    assert_eq!(call(0x31, 1, 0x57, 3, 128).0, (1, 128));
+    assert_eq!(desk.sector(DRIVE, 0x50, 1, 128).0, (1, 128));
+    assert_eq!(desk.sector(DRIVE, 0x57, 3, 128).0, (1, 128));
     let boot = &desk.image[HEADER..sector(4)];
     assert_eq!(boot, [[0xee; 128], [0; 128], [0xee; 128]].concat());
     assert_eq!(desk.image[sector(720)..], [0xee; SECTOR]);

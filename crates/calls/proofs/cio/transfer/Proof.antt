@@ -7,6 +7,9 @@ use Rattle.calls.proofs.cio.transfer.Tie as tie
 enum-told : tie.Need-enum-told
 enum-told c = search needs
 
+cast-get-at : tie.Need-cast-get-at
+cast-get-at c = search needs
+
 get-at-requires : tie.Need-get-at-requires
 get-at-requires c κs = search needs
 
@@ -24,7 +27,7 @@ same-length-2 c = search needs
 
 returns : tie.Need-returns
 unfolding transfer getAt
-returns c = rw (c .before .before .before .before .before .enum-told .given .1) (c .before .before .get-at .ensures .0, refl, c .before .before .get-at .ensures .1)
+returns c = rw (c .before .before .before .before .before .before .enum-told .given .1) (c .before .before .get-at .ensures .0, refl, c .before .before .get-at .ensures .1)
 
 same-length-3 : tie.Need-same-length-3
 same-length-3 c = search needs
@@ -38,4 +41,4 @@ returns-2 c = rw (c .before .before .before .before .before .enum-told2 .given .
 
 pub transfer-spec : {M : Type 1} → statement M
 transfer-spec =
-    tie.close (tie.spec enum-told get-at-requires enum-told-2 put-at-requires same-length same-length-2 returns same-length-3 same-length-4 returns-2)
+    tie.close (tie.spec enum-told cast-get-at get-at-requires enum-told-2 put-at-requires same-length same-length-2 returns same-length-3 same-length-4 returns-2)
