@@ -56,7 +56,7 @@ abbrev Among : List ℕ → ℕ → Type 0
 Among l n = member n l ≡ true
 
 module _ (g : Geometry) (d : Disk) where
-  get-answers : {st : State} {b : List ℕ} {o : GetOutcome} → GetEnds g d b st o → Among getAnswers (o .answer .status)
+  pub get-answers : {st : State} {b : List ℕ} {o : GetOutcome} → GetEnds g d b st o → Among getAnswers (o .answer .status)
   unfolding gets member
   get-answers get-closed = refl
   get-answers (get-writing s p) = refl

@@ -1,7 +1,7 @@
 -- The notch: with it closed no call changes the image, and 144 is answered with it closed alone.
 use mathlib.Core.Bool.{Bool, true, false, _&&_, true≢false}
 use mathlib.Core.List.{List, [], _∷_}
-use mathlib.Core.Logic.{_≢_, _⊎_, inl, inr}
+use mathlib.Core.Logic.{_≢_}
 use mathlib.Core.Path.{_≡_, refl, sym, ap, _∙_}
 use Prim.Native.Nat.{ℕ}
 use native.Mathlib.Omega.{arith}
@@ -11,13 +11,15 @@ use Rattle.layout.specs.declared.Table.{Table}
 use Rattle.layout.specs.declared.Served.the-variants.{Not}
 use Rattle.rules.specs.declared.Block.{Block}
 use Rattle.rules.specs.declared.Place.{Place}
+use Rattle.layout.specs.Basics.{member}
 use Rattle.layout.specs.Image.{Disk, Geometry, geometryOf, view}
 use Rattle.layout.specs.Header.{servedAs}
 use Rattle.layout.specs.Channels.{freshTable}
-use Rattle.layout.specs.Status.{writeProtected, badImage, badHeader}
+use Rattle.layout.specs.Status.{writeProtected}
 use Rattle.layout.proofs.Check.{by-check, by-served}
 use Rattle.layout.proofs.Logic.{and-right}
-use Rattle.rules.specs.Get.{GetOutcome, getFrom, gets}
+use Rattle.layout.proofs.Members.{member-apart}
+use Rattle.rules.specs.Get.{GetOutcome, getFrom}
 use Rattle.rules.specs.Put.{PutOutcome, putFrom, puts}
 use Rattle.rules.specs.Cio.{Outcome, ImageOutcome, cioCall}
 use Rattle.rules.specs.Recovery.{ImageRecovered, recoverCall}
@@ -25,11 +27,12 @@ use Rattle.rules.specs.Sectors.{SectorOutcome, ImageSectorOutcome, isWrite, sec
 use Rattle.rules.specs.Thin.{ImagePutOutcome, thinGet, thinPut}
 use Rattle.rules.specs.WriteHeader.{HeaderOutcome, headerCall}
 use Rattle.rules.specs.Lists.{Call, cioOf, recoveryOf, protectedIn, ImageTable, outcomeOf, outcomeOn, afterOn, images, run}
+use Rattle.rules.specs.Demand1.{getAnswers}
 use Rattle.rules.specs.Protected.{AllProtected, Protects, OnlyProtected}
-use Rattle.rules.proofs.Acts.{Kind, plainly, Why, plain, barred, no-table, no-chain, no-read, no-write, GetEnds, get-closed, get-writing, get-broken, get-none, get-some, put-plain, put-barred, put-no-table, put-broken, PutEnds, put-refuses, put-none, put-some, Ends, refuses, reads, reads-none, writes, writes-none, frees, closes, drops, opens, rewrites, makes, tells, renames, deletes, locks, unlocks, formats, restores}
+use Rattle.rules.proofs.Acts.{Kind, plainly, Why, plain, barred, no-table, no-chain, no-read, no-write, put-plain, put-barred, put-no-table, put-broken, PutEnds, put-refuses, put-none, put-some, Ends, refuses, reads, reads-none, writes, writes-none, frees, closes, drops, opens, rewrites, makes, tells, renames, deletes, locks, unlocks, formats, restores}
 use Rattle.rules.proofs.Ends.{get-ends, put-ends, ends}
-use Rattle.theory.proofs.Served.{kept-image, not-served}
-use Rattle.theory.proofs.Answers.{by-get-from, by-put-from}
+use Rattle.theory.proofs.Served.{kept-image, unserved-apart}
+use Rattle.theory.proofs.Answers.{by-get-from, by-put-from, get-answers}
 
 -- the notch is not both closed and open
 clash : {A : Type 0} {protected : Bool} → protected ≡ true → protected ≡ false → A
@@ -148,14 +151,6 @@ module _ (g : Geometry) (d : Disk) where
   ends-other (formats h) q = λ e. omega arith
   ends-other (restores s h) q = λ e. omega arith
 
-  get-other : {st : State} {b : List ℕ} {o : GetOutcome} → GetEnds g d b st o → Other (o .answer .status)
-  unfolding gets
-  get-other get-closed = λ e. omega arith
-  get-other (get-writing s p) = λ e. omega arith
-  get-other (get-broken s k o l r) = λ e. omega arith
-  get-other (get-none s k o l n) = λ e. omega arith
-  get-other {b = b} (get-some s k o l n r) = read-other s _ _ b
-
   put-other : {st : State} {b : List ℕ} {o : PutOutcome} → PutEnds g d false b st o → Other (o .answer .status)
   unfolding puts
   put-other (put-refuses st n (put-plain _ p) m) = λ e. true≢false (sym p ∙ ap plainly e)
@@ -174,19 +169,15 @@ module _ (g : Geometry) (d : Disk) where
 
 -- nor do 203 and 205
 unserved-other : (l : List ℕ) (n : ℕ) → servedAs l ≡ Not n → Other n
-unserved-other l n w = go (not-served l .only n w)
-  where
-    go : (n ≡ badImage) ⊎ (n ≡ badHeader) → Other n
-    go (inl p) e = omega arith
-    go (inr p) e = omega arith
+unserved-other l = unserved-apart l writeProtected (λ e. omega arith) (λ e. omega arith)
 
 pub only-protected : OnlyProtected
-unfolding cioCall recoverCall outcomeOf sectorCall thinGet thinPut headerCall
+unfolding cioCall recoverCall outcomeOf sectorCall thinGet thinPut headerCall member
 only-protected = record {
   calls = λ l t c text b q. by-served (λ (o : ImageOutcome). Other (o .answer .status)) _ _ _ (unserved-other l) (λ m _. ends-other _ _ (ends (geometryOf m) (cioOf c text b) (record { disk = view (geometryOf m) l; table = t })) q);
   recoveries = λ l s. by-served (λ (o : ImageRecovered). Other (o .reply .status)) _ _ _ (unserved-other l) (λ m _. ends-other _ _ (ends (geometryOf m) (recoveryOf false s) (record { disk = view (geometryOf m) l; table = freshTable })) refl);
   sectors = λ l device unit command k b. by-served (λ (o : ImageSectorOutcome). Other (o .reply .status)) _ _ _ (unserved-other l) (λ m _. sector-other (geometryOf m) (view (geometryOf m) l) device unit command k b);
-  thinGets = λ l c b. by-served (λ (o : GetOutcome). Other (o .answer .status)) _ _ _ (unserved-other l) (λ m _. get-other _ _ (get-ends (geometryOf m) (view (geometryOf m) l) (c .state) b));
+  thinGets = λ l c b. by-served (λ (o : GetOutcome). Other (o .answer .status)) _ _ _ (unserved-other l) (λ m _. member-apart writeProtected getAnswers refl _ (get-answers _ _ (get-ends (geometryOf m) (view (geometryOf m) l) (c .state) b)));
   thinPuts = λ l c b. by-served (λ (o : ImagePutOutcome). Other (o .answer .status)) _ _ _ (unserved-other l) (λ m _. put-other _ _ (put-ends (geometryOf m) (view (geometryOf m) l) false (c .state) b));
   headers = λ l.
       let P : HeaderOutcome → Type 0 = λ o. Other (o .reply .status) in

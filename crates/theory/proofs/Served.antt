@@ -1,7 +1,7 @@
 -- Calls on images: of one that is served each is the call on the disk that the image holds; of one that is not, each answers 203 or 205. What a call leaves is served as what it found.
 use mathlib.Core.Bool.{Bool, true, false, true≢false}
 use mathlib.Core.List.{List, [], _∷_}
-use mathlib.Core.Logic.{_⊎_, inl, inr}
+use mathlib.Core.Logic.{_≢_, _⊎_, inl, inr}
 use mathlib.Core.Path.{_≡_, refl, sym, ap, _∙_}
 use Prim.Native.Nat.{ℕ}
 use native.Mathlib.Omega.{arith}
@@ -150,3 +150,11 @@ module _ (l : List ℕ) where
     headers = (header, λ k. let (m, e, p, q) = k in wrong m e p q);
     only = reasons;
   }
+
+  -- so its number is no other than 203 and 205
+  pub unserved-apart : (k : ℕ) → k ≢ badImage → k ≢ badHeader → (n : ℕ) → servedAs l ≡ Not n → n ≢ k
+  unserved-apart k a b n w e = go (reasons n w)
+    where
+      go : (n ≡ badImage) ⊎ (n ≡ badHeader) → ⊥
+      go (inl f) = a (sym e ∙ f)
+      go (inr f) = b (sym e ∙ f)

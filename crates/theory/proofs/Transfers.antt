@@ -1,7 +1,7 @@
 -- What every get, put and close leaves, also in a partial transfer.
 use mathlib.Core.Bool.{Bool, true≢false}
 use mathlib.Core.List.{List, []}
-use mathlib.Core.Logic.{_≢_, _⊎_, inl, inr}
+use mathlib.Core.Logic.{_≢_}
 use mathlib.Core.Path.{_≡_, refl, sym, ap, _∙_}
 use Prim.Native.Nat.{ℕ, suc, zero, _+_, _≤_}
 use native.Mathlib.Omega.{arith}
@@ -21,7 +21,7 @@ use Rattle.rules.specs.declared.Command.the-variants.{Moves, Close}
 use Rattle.layout.specs.Image.{Disk, Geometry, geometryOf, view, imageOf}
 use Rattle.layout.specs.Header.{servedAs}
 use Rattle.layout.specs.Channels.{stateOf, withState}
-use Rattle.layout.specs.Status.{success, badImage, badHeader, badChain}
+use Rattle.layout.specs.Status.{success, badChain}
 use Rattle.layout.proofs.Check.{by-served}
 use Rattle.layout.proofs.Channels.{with-id}
 use Rattle.rules.specs.Get.{GetOutcome, Reads, place, seek, getFrom, gets}
@@ -35,7 +35,7 @@ use Rattle.rules.proofs.Acts.{asks, GetEnds, get-closed, get-writing, get-broke
 use Rattle.rules.proofs.Ends.{get-ends, put-ends, ends-as}
 use Rattle.theory.proofs.Adding.{adds-leave, put-leaves}
 use Rattle.theory.proofs.Refusals.{Kept, unchanged}
-use Rattle.theory.proofs.Served.{laws, kept-image, viewed, held-view, not-served}
+use Rattle.theory.proofs.Served.{laws, kept-image, viewed, held-view, unserved-apart}
 use Rattle.theory.proofs.Placed.{Placed}
 use Rattle.theory.proofs.PlacedCalls.{put-on-placed, call-placed}
 
@@ -138,11 +138,7 @@ still : (l : List ℕ) (st : State) → OnlyEndOn st l l []
 still l st m w s p _ k _ _ _ _ = refl
 
 no-close : (l : List ℕ) (n : ℕ) → servedAs l ≡ Not n → n ≢ badChain
-no-close l n w q = go (not-served l .only n w)
-  where
-    go : (n ≡ badImage) ⊎ (n ≡ badHeader) → ⊥
-    go (inl e) = omega arith
-    go (inr e) = omega arith
+no-close l = unserved-apart l badChain (λ e. omega arith) (λ e. omega arith)
 
 pub transfers : Transfers
 unfolding cioCall thinGet thinPut
