@@ -1,16 +1,13 @@
 -- A notch other than 0 is closed, and with it closed no exported function changes the image.
 use mathlib.Core.Bool.{true, not}
-use mathlib.Core.List.{List, [], _∷_}
 use mathlib.Core.Logic.{_≢_}
-use mathlib.Core.Path.{_≡_, refl, ap, _∙_}
+use mathlib.Core.Path.{_≡_, refl, ap}
 use Prim.Native.Nat.{ℕ}
 use borrow.Author.Tests.{ne-eqb}
-use Rattle.layout.specs.Image.{Geometry}
 use Rattle.layout.proofs.Check.{by-check}
-use Rattle.rules.specs.Lists.{Call, cioOf, recoveryOf, protectedIn, run}
-use Rattle.rules.specs.Protected.{AllProtected}
+use Rattle.rules.specs.Lists.{Call, cioOf, recoveryOf, protectedIn}
 use Rattle.capi.specs.Leaves.{CioLeaves, closed, cioLeaves, PutLeaves, putLeaves}
-use Rattle.theory.proofs.Protected.{protects}
+use Rattle.theory.proofs.Protected.{list-image, protects}
 use Rattle.exported.specs.Words.{ImageWords, callWords, words}
 use Rattle.exported.specs.Protected.{WordsProtected}
 
@@ -23,12 +20,6 @@ unfolding callWords cioLeaves
 call-image (cioOf c text b) x q = by-check (λ (o : CioLeaves). o .image ≡ x .image) _ _ _ (λ _. refl) λ _. protects .calls (x .image) _ c text b q
 call-image (recoveryOf protected s) x q = rw q (protects .recoveries (x .image) s)
 
--- and so a list
-lists : (g : Geometry) (cs : List Call) (x : ImageWords) → AllProtected cs → run (words g) cs x .image ≡ x .image
-unfolding run
-lists g [] x q = refl
-lists g (c ∷ cs) x (q, qs) = lists g cs (callWords c x .after) qs ∙ call-image c x q
-
 pub words-protected : WordsProtected
 unfolding callWords cioLeaves putLeaves
 words-protected = record {
@@ -37,5 +28,5 @@ words-protected = record {
   sector = λ l notch device unit command k b n. rw (is-closed notch n) (protects .sectors l device unit command k b);
   thinPut = λ l notch ws b n. by-check (λ (o : PutLeaves). o .image ≡ l) _ _ _ (λ _. refl) λ _. rw (is-closed notch n) (protects .thinPuts l _ b);
   header = λ l notch n. rw (is-closed notch n) (protects .headers l);
-  lists = lists;
+  lists = λ g. list-image (words g) (λ x. x .image) call-image;
 }

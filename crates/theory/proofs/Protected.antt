@@ -26,7 +26,7 @@ use Rattle.rules.specs.Recovery.{ImageRecovered, recoverCall}
 use Rattle.rules.specs.Sectors.{SectorOutcome, ImageSectorOutcome, isWrite, sector, sectorCall}
 use Rattle.rules.specs.Thin.{ImagePutOutcome, thinGet, thinPut}
 use Rattle.rules.specs.WriteHeader.{HeaderOutcome, headerCall}
-use Rattle.rules.specs.Lists.{Call, cioOf, recoveryOf, protectedIn, ImageTable, outcomeOf, outcomeOn, afterOn, images, run}
+use Rattle.rules.specs.Lists.{Call, cioOf, recoveryOf, protectedIn, Machine, run, ImageTable, outcomeOf, outcomeOn, images}
 use Rattle.rules.specs.Demand1.{getAnswers}
 use Rattle.rules.specs.Protected.{AllProtected, Protects, OnlyProtected}
 use Rattle.rules.proofs.Acts.{Kind, plainly, Why, plain, barred, no-table, no-chain, no-read, no-write, put-plain, put-barred, put-no-table, put-broken, PutEnds, put-refuses, put-none, put-some, Ends, refuses, reads, reads-none, writes, writes-none, frees, closes, drops, opens, rewrites, makes, tells, renames, deletes, locks, unlocks, formats, restores}
@@ -38,11 +38,11 @@ use Rattle.theory.proofs.Answers.{by-get-from, by-put-from, get-answers
 clash : {A : Type 0} {protected : Bool} → protected ≡ true → protected ≡ false → A
 clash p q = absurd (true≢false (sym p ∙ q))
 
-module _ (g : Geometry) (d : Disk) where
-  -- an open for output went on where the notch is open
-  output : (c : Block) → c .direction ≡ 8 → (eqb (c .direction) 8 && c .protected) ≡ false → c .protected ≡ false
-  output c e p = rw e at p
+-- an open for output went on where the notch is open
+output : (c : Block) → c .direction ≡ 8 → (eqb (c .direction) 8 && c .protected) ≡ false → c .protected ≡ false
+output c e p = rw e at p
 
+module _ (g : Geometry) (d : Disk) where
   -- with the notch closed the rows before every act that changes the disk refuse
   ends-protected : {t : Table} {k : Kind} {c : Call} {o : Outcome} → Ends g d t k c o → protectedIn c ≡ true → o .effect .disk ≡ d
   ends-protected (refuses n w m) q = refl
@@ -76,7 +76,7 @@ module _ (g : Geometry) (d : Disk) where
       P : SectorOutcome → Type 0
       P o = o .disk ≡ d
 
--- one call, and so a list of them
+-- one call
 calls : (l : List ℕ) (t : Table) (c : Block) (text b : List ℕ) → c .protected ≡ true → cioCall l t c text b .image ≡ l
 unfolding cioCall outcomeOf
 calls l t c text b q = by-served (λ (o : ImageOutcome). o .image ≡ l) _ _ _ (λ _ _. refl)
@@ -92,10 +92,12 @@ unfolding outcomeOn
 call-image (cioOf c text b) x q = calls (x .image) (x .table) c text b q
 call-image (recoveryOf protected s) x q = recoveries (x .image) protected s q
 
-lists : (g : Geometry) (cs : List Call) (x : ImageTable) → AllProtected cs → run (images g) cs x .image ≡ x .image
-unfolding run
-lists g [] x q = refl
-lists g (c ∷ cs) x (q, qs) = lists g cs (afterOn (outcomeOn c x)) qs ∙ call-image c x q
+-- a list keeps the image where each of its calls does
+module _ {X : Type 0} (m : Machine X) (image : X → List ℕ) (keeps : (c : Call) (x : X) → protectedIn c ≡ true → image (m .next c x) ≡ image x) where
+  pub list-image : (cs : List Call) (x : X) → AllProtected cs → image (run m cs x) ≡ image x
+  unfolding run
+  list-image [] x q = refl
+  list-image (c ∷ cs) x (q, qs) = list-image cs (m .next c x) qs ∙ keeps c x q
 
 pub protects : Protects
 unfolding sectorCall thinPut headerCall
@@ -107,7 +109,7 @@ protects = record {
   headers = λ l.
       let P : HeaderOutcome → Type 0 = λ o. o .image ≡ l in
       by-check P _ _ _ (λ _. refl) λ _. by-check P _ _ _ (λ _. refl) λ n. absurd (true≢false n);
-  lists = lists;
+  lists = λ g. list-image (images g) (λ x. x .image) call-image;
 }
 
 -- any other number
