@@ -200,8 +200,10 @@ enum {
 /*
  * Names. `D:` or `D1:`, then a letter and up to seven letters or digits, then
  * optionally a point and up to three letters or digits; capitals only. The
- * ending byte, 0 or $9B, is part of the length; bytes behind it are not looked
- * at. Rename takes `D:OLD,NEW`, the second name with no device.
+ * ending byte, 0, $9B or a blank, is part of the length; bytes behind it are not
+ * looked at, so a name may be padded with blanks. Rename takes `D:OLD,NEW`: the
+ * first name ends at the comma only, the second has no device and ends as names
+ * do. `D:` or `D1:` alone, as format takes it, ends so too.
  */
 
 /*
@@ -266,7 +268,9 @@ uint64_t dos_thin_put(uint8_t *image, size_t image_length, uint8_t notch,
 
 /*
  * Takes a name apart: 1, and its eleven blank-padded bytes in eleven; or 130,
- * 160 or 165, and eleven as it was. 255 where eleven_length is not 11.
+ * 160 or 165, and eleven as it was. 255 where eleven_length is not 11. The answer
+ * is status + 256 * count, count being the place of the name's ending byte on
+ * success, from 0 at the `D`, else 0.
  */
 uint64_t dos_name(const uint8_t *name, size_t name_length,
                   uint8_t *eleven, size_t eleven_length);

@@ -1,6 +1,7 @@
 #!/bin/sh
 # The script ./desk: it runs the program from any folder, and where it cannot, it says why in a line and exits with 1.
 # What the program refuses with the write-protect notch closed, and that it leaves the image's file alone then.
+# Names padded with blanks, and names that a blank would cut short.
 # And what the script shows while the library is being proved, by tools/progress.sh: on lines as rt prints them, then on rt's own.
 set -u
 root=$(cd "$(dirname "$0")/.." && pwd)
@@ -153,6 +154,49 @@ the notch is open
 changes not saved
 END
 shell_says 0 MEET.ATR
+
+# Every command takes names padded with blanks, and none makes a file whose name ends in them.
+mkdir "$work/padded"
+cd "$work/padded" || exit 1
+printf 'LANE 1  29.31' >heats.dat
+"$work/desk" new MEET.XFD || failed=1
+"$work/desk" put MEET.XFD heats.dat 'HEATS.DAT      ' || failed=1
+"$work/desk" lock MEET.XFD 'D1:HEATS.DAT ' || failed=1
+expect 1 "desk: HEATS.DAT: 167 the file is locked" "$work/desk" delete MEET.XFD 'HEATS.DAT  '
+"$work/desk" unlock MEET.XFD 'HEATS.DAT ' || failed=1
+"$work/desk" rename MEET.XFD 'HEATS.DAT  ' 'ENDS.DAT  ' || failed=1
+"$work/desk" delete MEET.XFD 'ENDS.DAT ' || failed=1
+expect 0 "slot 0 recovered, sectors taken back: 1" "$work/desk" recover MEET.XFD 'ENDS.DAT '
+"$work/desk" get MEET.XFD 'D:ENDS.DAT   ' && cmp heats.dat ENDS.DAT || failed=1
+[ "$(LC_ALL=C ls)" = "$(printf 'ENDS.DAT\nMEET.XFD\nheats.dat')" ] || { echo "other files than those that were to be made:"; ls; failed=1; }
+
+# What stands behind a blank is not cut off in silence.
+cut="165 a blank ends a name, and something stands behind it"
+expect 1 "desk: ENDS .DAT: $cut" "$work/desk" get MEET.XFD 'ENDS .DAT'
+expect 1 "desk: ENDS.DAT HEATS.DAT: $cut" "$work/desk" delete MEET.XFD 'ENDS.DAT HEATS.DAT'
+expect 1 "desk: NEW 1: $cut" "$work/desk" rename MEET.XFD ENDS.DAT 'NEW 1'
+expect 0 "   0  ENDS.DAT            1      13" "$work/desk" list MEET.XFD
+
+# The shell's exact calls lend names as they are, and a name's count is the place of its ending byte.
+cat >"$work/script" <<'END'
+status "ENDS.DAT  "
+status "ENDS .DAT"
+cio 0 13 0 "D:ENDS.DAT HEATS.DAT" -
+cio 0 32 0 "D:ENDS.DAT ,A " -
+cio 0 32 0 "D:ENDS.DAT,A " -
+name "D1:ENDS.DAT    " 11*00
+END
+cat >"$work/wanted" <<END
+1 success; count 0
+$cut; count 0
+1 success; count 0
+165 the name is malformed: capitals and digits, a letter first, at most 8 and 3; count 0
+1 success; count 0
+1 success; count 11
+  0000  45 4E 44 53 20 20 20 20 44 41 54                 ENDS    DAT
+changes not saved
+END
+"$work/desk" shell MEET.XFD <"$work/script" | diff "$work/wanted" - || { echo "the shell says otherwise (>)"; failed=1; }
 
 # Shows a command's run, the lines in $work/raw; expects an exit status, and without the times the lines of $work/wanted.
 shows() {

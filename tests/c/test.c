@@ -187,35 +187,79 @@ static void recovery(void)
     EXPECT(dos_recover(image, kind->length - 1, 0, 1), DOS_BAD_IMAGE, 0);
 }
 
-/* Examples 2 and 3: names, and what a refused one leaves. */
+/* Examples 2 and 3: names, the places of their ending bytes, and what a refused one leaves. */
 static void names(void)
 {
     static const struct {
         const char *text;
         size_t length;
         unsigned status;
+        size_t place;
         const char *eleven;
     } rows[] = {
-        {"D:A\x9B", 4, DOS_SUCCESS, "A          "},
-        {"D1:ENDS.DAT", 12, DOS_SUCCESS, "ENDS    DAT"},
-        {"D:ABCDEFGH.TXT", 15, DOS_SUCCESS, "ABCDEFGHTXT"},
-        {"D:ABCDEFGHI", 12, DOS_BAD_NAME, NULL},
-        {"D:1A", 5, DOS_BAD_NAME, NULL},
-        {"D:A", 3, DOS_BAD_NAME, NULL},
-        {"D2:A", 5, DOS_BAD_UNIT, NULL},
-        {"E:A", 4, DOS_BAD_DEVICE, NULL},
-        {"D", 1, DOS_BAD_DEVICE, NULL},
+        {"D:A\x9B", 4, DOS_SUCCESS, 3, "A          "},
+        {"D1:ENDS.DAT", 12, DOS_SUCCESS, 11, "ENDS    DAT"},
+        {"D:ABCDEFGH.TXT", 15, DOS_SUCCESS, 14, "ABCDEFGHTXT"},
+        {"D:ABCDEFGHI", 12, DOS_BAD_NAME, 0, NULL},
+        {"D:1A", 5, DOS_BAD_NAME, 0, NULL},
+        {"D:A", 3, DOS_BAD_NAME, 0, NULL},
+        {"D2:A", 5, DOS_BAD_UNIT, 0, NULL},
+        {"E:A", 4, DOS_BAD_DEVICE, 0, NULL},
+        {"D", 1, DOS_BAD_DEVICE, 0, NULL},
+        {"D:A ", 4, DOS_SUCCESS, 3, "A          "},
+        {"D:A   ", 7, DOS_SUCCESS, 3, "A          "},
+        {"D:A B\x9B", 6, DOS_SUCCESS, 3, "A          "},
+        {"D:A. ", 5, DOS_SUCCESS, 4, "A          "},
+        {"D1:A.TXT\x9B", 9, DOS_SUCCESS, 8, "A       TXT"},
+        {"D:ENDS.DAT    \x9B", 15, DOS_SUCCESS, 10, "ENDS    DAT"},
+        {"D1:ABCDEFGH.TXT ", 16, DOS_SUCCESS, 15, "ABCDEFGHTXT"},
+        {"D: ", 3, DOS_BAD_NAME, 0, NULL},
+        {"D: A\x9B", 5, DOS_BAD_NAME, 0, NULL},
+        {"D:A,B ", 6, DOS_BAD_NAME, 0, NULL},
+        {"D2:A ", 5, DOS_BAD_UNIT, 0, NULL},
+        {"D :A ", 5, DOS_BAD_DEVICE, 0, NULL},
     };
     uint8_t eleven[12];
     size_t i;
 
     for (i = 0; i < sizeof rows / sizeof rows[0]; i++) {
         memset(eleven, '#', sizeof eleven);
-        expect((int)i, dos_name((const uint8_t *)rows[i].text, rows[i].length, eleven, DOS_NAME_BYTES), rows[i].status, 0);
+        expect((int)i, dos_name((const uint8_t *)rows[i].text, rows[i].length, eleven, DOS_NAME_BYTES), rows[i].status, rows[i].place);
         expect_true((int)i, memcmp(eleven, rows[i].eleven ? rows[i].eleven : "###########", 11) == 0 && eleven[11] == '#');
     }
     EXPECT(dos_name((const uint8_t *)"D:A", 4, eleven, 12), DOS_BAD_ARGUMENT, 0);
     EXPECT(dos_name((const uint8_t *)"D:A", 4, eleven, 10), DOS_BAD_ARGUMENT, 0);
+    EXPECT(dos_name((const uint8_t *)"D:A ", 4, eleven, 10), DOS_BAD_ARGUMENT, 0);
+}
+
+/* A blank ends a name and a device alone; of rename's names it ends the second only. */
+static void blanks(void)
+{
+    static const char *const first_padded[] = {"D:A ,B", "D:A   ,B ", "D: A,B", "D: ,B", "D:A B"};
+    size_t i;
+
+    fresh();
+    make("D:A   ", 3);
+    EXPECT(by_name(0, DOS_STATUS, 0, "D:A"), DOS_SUCCESS, 0);
+    EXPECT(by_name(1, DOS_OPEN, DOS_READ, "D1:A B"), DOS_SUCCESS, 0);
+    EXPECT(by_buffer(1, DOS_CLOSE, NULL, 0), DOS_SUCCESS, 0);
+    EXPECT(by_name(0, DOS_LOCK, 0, "D:A "), DOS_SUCCESS, 0);
+    EXPECT(by_name(0, DOS_STATUS, 0, "D:A "), DOS_FILE_LOCKED, 0);
+    EXPECT(by_name(0, DOS_UNLOCK, 0, "D:A. "), DOS_SUCCESS, 0);
+    remember();
+    for (i = 0; i < sizeof first_padded / sizeof first_padded[0]; i++)
+        EXPECT(by_name(0, DOS_RENAME, 0, first_padded[i]), DOS_BAD_NAME, 0);
+    EXPECT(by_name(0, DOS_RENAME, 0, "D:A, B"), DOS_BAD_NAME, 0);
+    EXPECT(by_name(0, DOS_STATUS, 0, "D: "), DOS_BAD_NAME, 0);
+    HOLDS(unchanged());
+    EXPECT(by_name(0, DOS_RENAME, 0, "D:A,B  "), DOS_SUCCESS, 0);
+    EXPECT(by_name(0, DOS_DELETE, 0, "D:B "), DOS_SUCCESS, 0);
+    EXPECT(by_name(0, DOS_STATUS, 0, "D:B "), DOS_NOT_FOUND, 0);
+    EXPECT(recover(0), DOS_SUCCESS, 1);
+    EXPECT(by_name(0, DOS_FORMAT, 0, "D:B "), DOS_BAD_NAME, 0);
+    EXPECT(by_name(0, DOS_FORMAT, 0, "D: "), DOS_SUCCESS, 0);
+    EXPECT(by_name(0, DOS_FORMAT, 0, "D1:  A"), DOS_SUCCESS, 0);
+    EXPECT(by_name(0, DOS_STATUS, 0, "D:B"), DOS_NOT_FOUND, 0);
 }
 
 /* Refusals of dos_cio in the order of its checks, none of which changes anything. */
@@ -655,6 +699,7 @@ int main(void)
         kind = &kinds[i];
         files();
         recovery();
+        blanks();
         refusals();
         all_open();
         damage();

@@ -35,11 +35,11 @@ pub fn plain(x: u16) -> bool
     letter(x) | digit(x)
 }
 
-// 0 or $9B.
+// 0, $9B or a blank.
 pub fn ending(x: u16) -> bool
     ensures { λ r. ⌜ r ≡ ending x ⌝ }
 {
-    (x == 0) | (x == 0x9B)
+    (x == 0) | (x == 0x9B) | (x == 32)
 }
 
 // What ends the first of rename's two names.

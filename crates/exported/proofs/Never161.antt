@@ -7,7 +7,7 @@ use native.Mathlib.Omega.{arith}
 use Rattle.layout.specs.declared.Name.{Name}
 use Rattle.layout.specs.declared.Name.the-variants.{Is, Refused}
 use Rattle.layout.specs.Basics.{if, member}
-use Rattle.layout.specs.Names.{readName, ending, nameStatus}
+use Rattle.layout.specs.Names.{readName, wholeEnd, body, ending, nameStatus, parsed, parseName}
 use Rattle.layout.proofs.Check.{by-check}
 use Rattle.layout.proofs.Members.{member-apart}
 use Rattle.rules.specs.Showing.{shows, shownStart, shownLength}
@@ -40,12 +40,12 @@ shown-result l s k = go (shows l s k) (shownStart l s k * 1024 + shownLength l s
 
 -- a name has 1, 130, 160 or 165
 name-result : (text b : List ℕ) → Not161 (nameLeaves text b .result)
-unfolding nameLeaves readName
+unfolding nameLeaves parseName readName
 name-result text b = by-check (λ (o : NameLeaves). Not161 (o .result)) _ _ _ (λ _ e. omega arith) λ _. go (readName text) refl
   where
-    go : (x : Name) → readName text ≡ x → Not161 (nameStatus x)
+    go : (x : Name) → readName text ≡ x → let p = parsed x (wholeEnd text (body text)) in Not161 (resultOf (nameStatus (p .name)) (p .place))
     go (Is word extension) e = λ q. omega arith
-    go (Refused n) e = by-read Not161 (λ q. omega arith) (λ q. omega arith) (λ q. omega arith) ending text n e
+    go (Refused n) e = by-read (λ x. Not161 (resultOf x 0)) (λ q. omega arith) (λ q. omega arith) (λ q. omega arith) ending text n e
 
 pub results-never161 : ResultsNever161
 unfolding cioLeaves getLeaves putLeaves

@@ -18,4 +18,5 @@ pub mod Count
 pub mod Chain
 pub mod ChainSteps
 pub mod Packed
+pub mod Text
 pub mod Tells

@@ -6,6 +6,7 @@ use chars::ending;
 use chars::ends_by;
 use chars::letter;
 use layout::Name;
+use layout::Parsed;
 use layout::status::BAD_DEVICE;
 use layout::status::BAD_NAME;
 use layout::status::BAD_UNIT;
@@ -13,7 +14,8 @@ use layout::status::SUCCESS;
 ghost use mathlib.Core.Path.{_≡_};
 ghost use Prim.Native.Nat.{_+_, _≤_, _<_};
 ghost use lib.ListN.{length};
-ghost use Rattle.layout.specs.Names.{hasDevice, hasUnit, body, nameEnd, wholeEnd, wellFormed, padded, asWord, nameByte, nameAt, readAs, readName, oldName, newName, readDevice, nameStatus, TellsName};
+ghost use Rattle.layout.specs.declared.Name.the-variants.{Refused};
+ghost use Rattle.layout.specs.Names.{hasDevice, hasUnit, body, nameEnd, wholeEnd, wellFormed, padded, asWord, nameByte, nameAt, readAs, readName, parsed, parseName, oldName, newName, readDevice, nameStatus, TellsName, TellsParsed};
 ghost use Rattle.chars.specs.Ends.{endsBy};
 ghost use Rattle.names.specs.Device.{deviceStatus};
 
@@ -105,19 +107,32 @@ fn extension_word(text: &[u8], i: usize, e: usize) -> u64
     padded(text, i, e, 0) + 256 * padded(text, i, e, 1) + 65536 * padded(text, i, e, 2)
 }
 
-// The name that begins at i.
-fn name_at(by_comma: bool, text: &[u8], i: usize) -> Name
+// A refused name, which no byte ends.
+fn refused(status: u8) -> Parsed
+    ensures { λ r. ⌜ r ≡ parsed (Refused status) 0 ⌝ }
+{
+    Parsed {
+        name: Name::Refused(status),
+        place: 0,
+    }
+}
+
+// The name that begins at i, and where it ends.
+fn name_at(by_comma: bool, text: &[u8], i: usize) -> Parsed
     requires { ⌜ i ≤ 32 ⌝ }
-    ensures { λ r. ⌜ r ≡ nameAt (endsBy «by_comma») (now (text .entry)) i ⌝ }
+    ensures { λ r. ⌜ (let l = now (text .entry) in r ≡ parsed (nameAt (endsBy «by_comma») l i) (wholeEnd l i)) ⌝ }
 {
     let e = name_end(text, i);
     let w = whole_end(text, i, e);
     if !well_formed(by_comma, text, i, w) {
-        return Name::Refused(BAD_NAME);
+        return refused(BAD_NAME);
     }
-    Name::Is {
-        name: name_word(text, i, e),
-        extension: extension_word(text, e + 1, w),
+    Parsed {
+        name: Name::Is {
+            name: name_word(text, i, e),
+            extension: extension_word(text, e + 1, w),
+        },
+        place: w,
     }
 }
 
@@ -135,28 +150,37 @@ fn device_status(text: &[u8]) -> u8
 }
 
 // Device, unit and name.
-fn read_as(by_comma: bool, text: &[u8]) -> Name
-    ensures { λ r. ⌜ r ≡ readAs (endsBy «by_comma») (now (text .entry)) ⌝ }
+fn read_as(by_comma: bool, text: &[u8]) -> Parsed
+    ensures { λ r. ⌜ (let l = now (text .entry) in r ≡ parsed (readAs (endsBy «by_comma») l) (wholeEnd l (body l))) ⌝ }
 {
     let n = device_status(text);
     if n != SUCCESS {
-        return Name::Refused(n);
+        return refused(n);
     }
     name_at(by_comma, text, body(text))
+}
+
+// A name, or its one refusal, with the place of the byte that ends it.
+pub fn parse_name(text: &[u8]) -> Parsed
+    ensures { λ r. ⌜ TellsParsed (parseName (now (text .entry))) r ⌝ }
+{
+    read_as(false, text)
 }
 
 // The eleven padded bytes of a name, or its one refusal.
 pub fn read_name(text: &[u8]) -> Name
     ensures { λ r. ⌜ TellsName (readName (now (text .entry))) r ⌝ }
 {
-    read_as(false, text)
+    let p = read_as(false, text);
+    p.name
 }
 
 // The first of rename's two names.
 pub fn old_name(text: &[u8]) -> Name
     ensures { λ r. ⌜ TellsName (oldName (now (text .entry))) r ⌝ }
 {
-    read_as(true, text)
+    let p = read_as(true, text);
+    p.name
 }
 
 // The second of them, behind the comma.
@@ -165,7 +189,8 @@ pub fn new_name(text: &[u8]) -> Name
 {
     let i = body(text);
     let e = name_end(text, i);
-    name_at(false, text, whole_end(text, i, e) + 1)
+    let p = name_at(false, text, whole_end(text, i, e) + 1);
+    p.name
 }
 
 // The refusal of a device alone, or 1.

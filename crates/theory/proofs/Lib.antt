@@ -57,3 +57,5 @@ pub mod Shown
 pub mod Demand1
 pub mod Protected
 pub mod Never161
+pub mod Spelling
+pub mod ReadNames

@@ -137,9 +137,12 @@ fn simpler(step: &Step) -> Vec<Step> {
         notch,
         lengths: *lengths,
     }));
+    let names = simpler_names(call.name());
+    let names = names.into_iter().map(|name| call.with_name(name));
     let buffers = call.buffer().map(simpler_buffers).unwrap_or_default();
-    steps.extend(buffers.into_iter().map(|buffer| Step::Call {
-        call: call.with_buffer(buffer),
+    let buffers = buffers.into_iter().map(|buffer| call.with_buffer(buffer));
+    steps.extend(names.chain(buffers).map(|call| Step::Call {
+        call,
         notch: *notch,
         lengths: *lengths,
     }));
@@ -153,6 +156,23 @@ fn simpler_notches(notch: u8) -> &'static [u8] {
         1 => &[0],
         _ => &[0, 1],
     }
+}
+
+/// The end of line is simpler than a blank, one blank than more, and nothing behind it than something.
+fn simpler_names(name: &[u8]) -> Vec<Vec<u8>> {
+    let Some(end) = name.iter().position(|&byte| byte == b' ') else {
+        return Vec::new();
+    };
+    let (text, padding) = name.split_at(end);
+    let blanks = padding.iter().take_while(|&&byte| byte == b' ').count();
+    let mut names = vec![[text, b"\x9b"].concat()];
+    if padding.len() > 1 {
+        names.push([text, b" "].concat());
+    }
+    if blanks > 1 && padding.len() > blanks {
+        names.push([text, b" ", &padding[blanks..]].concat());
+    }
+    names
 }
 
 fn simpler_buffers(buffer: &Buffer) -> Vec<Buffer> {

@@ -126,6 +126,14 @@ impl Call {
         }
     }
 
+    /// The name that the call is lent, whether it looks at it or not; else no bytes.
+    pub fn name(&self) -> &[u8] {
+        match self {
+            Call::Cio(Cio { name, .. }) | Call::Name { name, .. } => name,
+            _ => &[],
+        }
+    }
+
     /// The lent record of a thin call, else no words.
     pub fn words(&self) -> &[u16] {
         match self {
@@ -144,6 +152,15 @@ impl Call {
             | Call::ThinPut { buffer, .. }
             | Call::Name { eleven: buffer, .. } => *buffer = other,
             Call::Recover { .. } | Call::Show { .. } | Call::Header => (),
+        }
+        call
+    }
+
+    /// The same call with another name, if it is lent one.
+    pub fn with_name(&self, other: Vec<u8>) -> Call {
+        let mut call = self.clone();
+        if let Call::Cio(Cio { name, .. }) | Call::Name { name, .. } = &mut call {
+            *name = other;
         }
         call
     }
@@ -311,6 +328,10 @@ mod tests {
         assert_eq!(
             cio(b"D:A\x9b", Buffer::Fill(0, 9)),
             r#"cio 1 11 0 "D:A\x9b" -"#
+        );
+        assert_eq!(
+            cio(b"D:A  B \0", Buffer::Fill(0, 9)),
+            r#"cio 1 11 0 "D:A  B \x00" -"#
         );
         assert_eq!(
             cio(b"\"\\", Buffer::Fill(3, 10)),

@@ -61,6 +61,33 @@ fn a_case_keeps_a_closed_notch_where_that_matters() {
     assert!(matches!(one_only, Step::Call { notch: 2.., .. }));
 }
 
+/// The name of that step.
+fn name_that_shows(fault: Fault) -> Vec<u8> {
+    match step_that_shows(fault) {
+        Step::Call { call, .. } => call.name().to_vec(),
+        step => panic!("{step} is no call"),
+    }
+}
+
+/// The blanks of a name.
+fn blanks(name: &[u8]) -> usize {
+    name.iter().filter(|&&byte| byte == b' ').count()
+}
+
+#[test]
+fn a_case_keeps_the_blanks_of_a_name_where_they_matter() {
+    let without = name_that_shows(Fault::DigitFirst);
+    assert_eq!(blanks(&without), 0, "{without:?}");
+    let at_its_end = name_that_shows(Fault::BlankEndsNoName);
+    assert_eq!(blanks(&at_its_end), 1, "{at_its_end:?}");
+    assert!(at_its_end.ends_with(b" "), "{at_its_end:?}");
+    let several = name_that_shows(Fault::PlaceOfLastBlank);
+    assert!(blanks(&several) > 1, "{several:?}");
+    let text_behind = name_that_shows(Fault::BlanksPassedOver);
+    assert_eq!(blanks(&text_behind), 1, "{text_behind:?}");
+    assert!(!text_behind.ends_with(b" "), "{text_behind:?}");
+}
+
 #[test]
 fn a_disk_that_is_no_longer_sound_is_noticed_and_its_case_shrunk() {
     // Both sides make the same mistake, so nothing else differs.
@@ -212,4 +239,54 @@ fn every_status_comes_for_every_call_that_has_it() {
     for (kind, statuses) in expected {
         assert_eq!(statistics.statuses(kind), statuses, "{kind}");
     }
+}
+
+#[test]
+fn every_call_that_takes_a_name_takes_one_that_a_blank_ends() {
+    let mut statistics = Statistics::default();
+    let mut pair = Pair::new(("model", MODEL), ("model", MODEL));
+    assert!(run(&mut pair, 1, 60_000, &mut statistics).is_ok());
+    for kind in [
+        "delete", "format", "lock", "name", "open 4", "open 8", "rename", "status", "unlock",
+    ] {
+        let statuses = statistics.statuses_by_blank(kind);
+        for status in [1, 130, 160, 165] {
+            assert!(statuses.contains(&status), "{kind}: {statuses:?}");
+        }
+    }
+    let first_name = statistics.statuses_by_blank("rename, first name");
+    assert!(first_name.contains(&165), "{first_name:?}");
+    assert!(!first_name.contains(&1), "{first_name:?}");
+    for kind in ["close", "get", "other commands", "put", "recover"] {
+        assert!(statistics.statuses_by_blank(kind).is_empty(), "{kind}");
+    }
+}
+
+#[test]
+fn the_statistics_tell_names_that_a_blank_ends_apart() {
+    let mut statistics = Statistics::default();
+    let mut count = |command, name: &[u8], answer| {
+        let cio = Cio {
+            name: name.to_vec(),
+            ..Cio::new(0, command)
+        };
+        statistics.count(Kind::Raw, false, &Call::Cio(cio).into(), answer);
+    };
+    count(13, b"D:A\x9b ", 1);
+    count(13, b"D:A ", 170);
+    count(13, b"D:A B\x9b", 170);
+    count(32, b"D:A,B ", 1);
+    count(32, b"D:A ,B\x9b", 165);
+    count(12, b"D:A ", 1);
+    let printed = statistics.to_string();
+    let (_, by_blank) = printed.split_once(" name ended by a blank ").unwrap();
+    let expected = [
+        "4",
+        "How often each status came for a name ended by a blank:",
+        "rename 1 | 1: 1",
+        "rename, first name 1 | 165: 1",
+        "status 2 | 170: 2",
+    ];
+    let words = |line: &str| line.split_whitespace().collect::<Vec<_>>().join(" ");
+    assert_eq!(by_blank.lines().map(words).collect::<Vec<_>>(), expected);
 }

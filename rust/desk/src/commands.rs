@@ -5,7 +5,7 @@ use crate::{
     contents::read_file,
     directory,
     dump::dump,
-    failure::{numbered, numbered_recovery, About, Failure},
+    failure::{numbered, numbered_name, numbered_recovery, About, Failure},
     header,
     image_file::{self, ImageFile},
     syntax, whole_file,
@@ -70,12 +70,22 @@ fn require_unprotected(disk: &mut Disk<Vec<u8>>, file: &ImageFile) -> Result<(),
     Ok(())
 }
 
-/// A name on the disk.
-fn name(argument: &OsStr) -> Result<&str, Failure> {
+/// An argument that is no path.
+fn text(argument: &OsStr) -> Result<&str, Failure> {
     argument
         .to_str()
         .ok_or(Status::BadName)
         .about(argument.display())
+}
+
+/// A name on the disk, without the blanks that may pad it. One that a blank would cut short is refused.
+fn name(argument: &OsStr) -> Result<&str, Failure> {
+    let name = text(argument)?.trim_end_matches(' ');
+    if name.contains(' ') {
+        let refusal = numbered_name(Status::BadName, name);
+        return Err(Failure::new(format!("{name}: {refusal}")));
+    }
+    Ok(name)
 }
 
 pub fn new(arguments: &Arguments, _: &mut dyn Write) -> Outcome {
@@ -117,9 +127,10 @@ pub fn list(arguments: &Arguments, out: &mut dyn Write) -> Outcome {
 }
 
 pub fn get(arguments: &Arguments, out: &mut dyn Write) -> Outcome {
-    let name = name(&arguments.operands[1])?;
     let image = &arguments.operands[0];
-    let bytes = read_file(&mut load(image)?, name)?;
+    let mut disk = load(image)?;
+    let name = name(&arguments.operands[1])?;
+    let bytes = read_file(&mut disk, name)?;
     match arguments.operands.get(2) {
         Some(file) if file == "-" => Ok(out.write_all(&bytes)?),
         Some(file) if whole_file::same(Path::new(image), Path::new(file)) => {
@@ -200,11 +211,11 @@ pub fn rename(arguments: &Arguments, _: &mut dyn Write) -> Outcome {
 
 pub fn recover(arguments: &Arguments, out: &mut dyn Write) -> Outcome {
     let (slot, sectors) = edit(arguments, |disk| {
-        let which = name(&arguments.operands[1])?;
+        let which = text(&arguments.operands[1])?;
         let slot = if which.starts_with(|first: char| first.is_ascii_digit() || first == '$') {
             syntax::number(which)?
         } else {
-            deleted_slot(disk, which)?
+            deleted_slot(disk, name(&arguments.operands[1])?)?
         };
         let refused = |status| format!("slot {slot}: {}", numbered_recovery(status));
         Ok((slot, disk.recover(slot).map_err(refused)?))
@@ -246,7 +257,7 @@ fn deleted_slot(disk: &mut Disk<Vec<u8>>, name: &str) -> Result<u8, Failure> {
 }
 
 pub fn sector(arguments: &Arguments, out: &mut dyn Write) -> Outcome {
-    let number: u16 = syntax::number(name(&arguments.operands[1])?)?;
+    let number: u16 = syntax::number(text(&arguments.operands[1])?)?;
     let bytes = load(&arguments.operands[0])?
         .whole_sector(number)
         .about(format!("sector {number}"))?;

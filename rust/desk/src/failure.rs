@@ -59,6 +59,17 @@ pub fn numbered_recovery(status: Status) -> String {
     }
 }
 
+/// The answer of a call on a name, as [`numbered`]. A blank ends a name: one that has something behind it is malformed for that.
+pub fn numbered_name(status: Status, name: &str) -> String {
+    match status {
+        Status::BadName if name.trim_end_matches(' ').contains(' ') => format!(
+            "{} a blank ends a name, and something stands behind it",
+            status.number()
+        ),
+        _ => numbered(status),
+    }
+}
+
 /// Says what an error is about.
 pub trait About<T> {
     fn about(self, what: impl Display) -> Result<T, Failure>;

@@ -69,8 +69,8 @@ pub fn overview() -> String {
         text += &format!("  desk {usage:<28} {}\n", command.summary);
     }
     text += "
-desk COMMAND --help says more about one of them. Names on a disk are like ENDS.DAT, capitals only.
-A refusal is printed with its status number. The exit status is 0, or 1 where anything failed;
+desk COMMAND --help says more about one of them. Names on a disk are like ENDS.DAT, capitals only; blanks
+may pad them. A refusal is printed with its status number. The exit status is 0, or 1 where anything failed;
 an image is written back only when everything succeeded.
 With --protect, which all but new and demo take, the image's write-protect notch is closed, as it is where
 the file may not be written: what would change the image is refused with 144, and the file is left alone.

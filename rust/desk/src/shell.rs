@@ -6,7 +6,7 @@ use crate::{
     directory,
     dump::dump,
     exact::{print_answer, Exact, Lengths, Understood},
-    failure::{numbered, About, Failure},
+    failure::{numbered, numbered_name, About, Failure},
     image_file::{self, ImageFile},
     syntax::{self, value, Word},
 };
@@ -25,7 +25,7 @@ call prints its status number, its message and its count; bytes that it handed o
 Without IMAGE a fresh raw image in memory is used. Nothing is written to a file but by save. The exit status is
 1 where a line could not be understood or carried out; a refused call is no failure here.
 
-Files
+Files; blanks may pad a NAME, in quotes
   open N read|write NAME       open a file on channel N, 0 to 7
   get N COUNT                  read from a channel
   put N TEXT                   write to a channel
@@ -37,14 +37,15 @@ Files
 
 Calls with every argument as it is; behind a get or a sector read follows the whole BUFFER
   cio CHANNEL COMMAND DIRECTION \"NAME\" BUFFER
-                               NAME needs its device and ending byte: \"D:A\\x9B\"
+                               NAME needs its device and ending byte: \"D:A\\x9B\", \"D:A\\x00\" or \"D:A \"
   sector DEVICE UNIT COMMAND SECTOR BUFFER
   recover SLOT                 take the deleted file in a slot back
   show SLOT SECTOR             where the data of a sector are, if SLOT could enter it
   thin-get KIND SLOT SECTOR OFFSET LEFT BUFFER
   thin-put KIND SLOT SECTOR OFFSET LEFT BUFFER
                                read or write by a channel record of its own
-  name \"NAME\" BUFFER           take a name apart; BUFFER has eleven bytes
+  name \"NAME\" BUFFER           take a name apart; BUFFER has eleven bytes. The count is the place of NAME's
+                               ending byte, from 0 at the D
   header                       write the header of an ATR file
   lent BYTES WORDS CALL        one of these calls, lent so many bytes of the image and words of the table
 
@@ -233,8 +234,8 @@ impl<'a> Shell<'a> {
             "write" => Direction::Write,
             other => return Err(Failure::new(format!("{other}: neither read nor write"))),
         };
-        let answer = self.disk.open(value(n)?, direction, name.text()?);
-        self.status(answer.map(|()| 0))
+        let n = value(n)?;
+        self.on_name(|disk, name| disk.open(n, direction, name), name)
     }
 
     fn get(&mut self, n: &Word, count: &Word) -> Understood {
@@ -258,21 +259,24 @@ impl<'a> Shell<'a> {
 
     fn on_name(
         &mut self,
-        call: fn(&mut Disk<Vec<u8>>, &str) -> Result<(), Status>,
+        call: impl FnOnce(&mut Disk<Vec<u8>>, &str) -> Result<(), Status>,
         name: &Word,
     ) -> Understood {
-        let answer = call(&mut self.disk, name.text()?);
-        self.status(answer.map(|()| 0))
+        let name = name.text()?;
+        let answer = call(&mut self.disk, name);
+        self.status(answer, name)
     }
 
+    /// Either name may be padded, as they are words of their own: to the library the old one ends at a comma only.
     fn rename(&mut self, old: &Word, new: &Word) -> Understood {
-        let answer = self.disk.rename(old.text()?, new.text()?);
-        self.status(answer.map(|()| 0))
+        let (old, new) = (old.text()?.trim_end_matches(' '), new.text()?);
+        let answer = self.disk.rename(old, new);
+        self.status(answer, &format!("{old},{new}"))
     }
 
     fn format(&mut self) -> Understood {
         let answer = self.disk.format();
-        self.status(answer.map(|()| 0))
+        self.status(answer, "")
     }
 
     /// Changes a byte of a sector or of the header. It is no call, so a header that does not agree does not hinder it; a
@@ -404,11 +408,10 @@ impl<'a> Shell<'a> {
         Ok(print_answer(answer, self.out)?)
     }
 
-    fn status(&mut self, answer: Result<usize, Status>) -> Understood {
-        let (status, count) = match answer {
-            Ok(count) => (Status::Success, count),
-            Err(status) => (status, 0),
-        };
-        self.answer(Answer { status, count })
+    /// Prints the answer of a call on a name, or on no file. Such a call reports no count.
+    fn status(&mut self, answer: Result<(), Status>, name: &str) -> Understood {
+        let status = answer.err().unwrap_or(Status::Success);
+        let status = numbered_name(status, name);
+        Ok(writeln!(self.out, "{status}; count 0")?)
     }
 }

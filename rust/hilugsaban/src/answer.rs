@@ -124,7 +124,7 @@ impl From<Status> for io::Error {
 pub struct Answer {
     /// Whether the call did what was asked, or why not.
     pub status: Status,
-    /// Bytes of a get, put or sector call, sectors of a recovery, else 0.
+    /// Bytes of a get, put or sector call, sectors of a recovery, the place of a name's ending byte, else 0.
     pub count: usize,
 }
 

@@ -239,7 +239,7 @@ impl<B: AsMut<[u8]>> Disk<B> {
             channel,
             command::OPEN,
             direction as u8,
-            &lent(name)?,
+            &lent(name),
             &mut [],
         )
         .status
@@ -289,7 +289,7 @@ impl<B: AsMut<[u8]>> Disk<B> {
         self.on_name(command::STATUS, name)
     }
 
-    /// Gives a file another name. The new name has no device.
+    /// Gives a file another name. The new name has no device, and it alone may be padded with blanks.
     ///
     /// ```
     /// # use hilugsaban::{Direction, Disk, Status};
@@ -341,7 +341,7 @@ impl<B: AsMut<[u8]>> Disk<B> {
     /// [`Status::ChannelOpen`].
     fn on_name(&mut self, command: u8, name: &str) -> Result<(), Status> {
         let channel = self.table.closed().unwrap_or(0);
-        self.cio(channel, command, 0, &lent(name)?, &mut [])
+        self.cio(channel, command, 0, &lent(name), &mut [])
             .status
             .ok()
     }

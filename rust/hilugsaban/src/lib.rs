@@ -28,9 +28,10 @@
 //! # Names
 //!
 //! A name is a letter and up to seven letters or digits, then optionally a point and up to three letters or digits, capitals
-//! only. It may begin with its device, `D:` or `D1:`; without one, `D:` is put before it. The ending byte that the library
-//! asks for is put behind it, so a name that holds an ending byte itself (0 or $9B) is refused as malformed, before the library
-//! is asked.
+//! only. It may begin with its device, `D:` or `D1:`; without one, `D:` is put before it. Blanks may pad it, but not the first
+//! name of a rename. The ending byte that the library asks for is put behind it. A name that holds an ending byte itself (0 or
+//! $9B, or a blank with anything but blanks behind it) is not cut short there, but refused as malformed. [`read_name`] takes
+//! bytes as they are lent.
 //!
 //! # Linking
 //!
@@ -61,7 +62,7 @@ mod table;
 pub use answer::{Answer, Incomplete, Status};
 pub use disk::{command, Direction, Disk};
 pub use kind::Kind;
-pub use name::padded_name;
+pub use name::{padded_name, read_name, ReadName};
 pub use notch::Notch;
 pub use stream::{Reader, Writer};
 pub use table::{Channel, Table, CHANNELS, CLOSED, READING, WRITING};

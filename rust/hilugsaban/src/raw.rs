@@ -188,7 +188,7 @@ pub fn thin_put(image: &mut [u8], notch: u8, channel: &mut [u16], buffer: &[u8])
     }
 }
 
-/// Takes a name apart into its eleven padded bytes.
+/// Takes a name apart into its eleven padded bytes. The count is the place of its ending byte, from 0 at the `D`.
 #[inline]
 pub fn name(name: &[u8], eleven: &mut [u8]) -> u64 {
     // SAFETY: as for `cio`.

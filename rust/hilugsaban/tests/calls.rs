@@ -1,8 +1,8 @@
 //! The safe calls on whole disks: files, refusals, damage, streams.
 
 use hilugsaban::{
-    command, raw, Answer, Channel, Direction, Disk, Incomplete, Kind, Notch, Status, CHANNELS,
-    CLOSED, READING, WRITING,
+    command, padded_name, raw, read_name, Answer, Channel, Direction, Disk, Incomplete, Kind,
+    Notch, ReadName, Status, CHANNELS, CLOSED, READING, WRITING,
 };
 use std::io::{self, ErrorKind, Read, Write};
 
@@ -94,6 +94,106 @@ fn names_are_changed_locked_and_deleted() {
     assert_eq!(disk.recover(0), Ok(1));
     assert_eq!(read(&mut disk, "C"), b"a");
     assert_eq!(disk.recover(0), Err(Status::NotFound));
+}
+
+#[test]
+fn names_may_be_padded_with_blanks() {
+    for blanks in [0, 1, 6, 300] {
+        let mut disk = Disk::fresh();
+        let padded = |name: &str| name.to_string() + &" ".repeat(blanks);
+        make(&mut disk, &padded("A.DAT"), b"bytes");
+        assert_eq!(disk.status("A.DAT"), Ok(()));
+        assert_eq!(read(&mut disk, &padded("D1:A.DAT")), b"bytes");
+        assert_eq!(disk.lock(&padded("A.DAT")), Ok(()));
+        assert_eq!(disk.status(&padded("A.DAT")), Err(Status::FileLocked));
+        assert_eq!(disk.unlock(&padded("D:A.DAT")), Ok(()));
+        assert_eq!(disk.rename("A.DAT", &padded("B")), Ok(()));
+        assert_eq!(disk.delete(&padded("B")), Ok(()));
+        assert_eq!(disk.status(&padded("B")), Err(Status::NotFound));
+        assert_eq!(padded_name(&padded("A.DAT")), Ok(*b"A       DAT"));
+    }
+}
+
+#[test]
+fn only_the_new_name_of_a_rename_may_be_padded() {
+    let mut disk = Disk::fresh();
+    make(&mut disk, "A", b"bytes");
+    for (old, new) in [
+        ("A ", "B"),
+        ("A  ", "B "),
+        ("A", " B"),
+        ("A", " "),
+        ("A", "B C"),
+    ] {
+        assert_eq!(disk.rename(old, new), Err(Status::BadName), "{old}, {new}");
+    }
+    assert_eq!(disk.rename("A", "B  "), Ok(()));
+    assert_eq!(read(&mut disk, "B"), b"bytes");
+}
+
+#[test]
+fn a_name_is_not_cut_short_at_a_blank() {
+    let mut disk = Disk::fresh();
+    make(&mut disk, "A", b"bytes");
+    let before = disk.image().to_vec();
+    for name in ["A B", "A .DAT", " A", "A B ", "D:A ,", "A \0", "A\u{9b} "] {
+        assert_eq!(disk.open(0, Direction::Read, name), Err(Status::BadName));
+        assert_eq!(disk.open(0, Direction::Write, name), Err(Status::BadName));
+        for call in [Disk::status, Disk::delete, Disk::lock, Disk::unlock] {
+            assert_eq!(call(&mut disk, name), Err(Status::BadName), "{name:?}");
+        }
+        assert_eq!(padded_name(name), Err(Status::BadName), "{name:?}");
+    }
+    assert_eq!(disk.status("E:A B"), Err(Status::BadDevice));
+    assert_eq!(disk.status("D2:A B"), Err(Status::BadUnit));
+    assert!(disk.image() == before);
+    disk.set_notch(Notch::Closed);
+    assert_eq!(disk.delete("A B"), Err(Status::WriteProtected));
+}
+
+#[test]
+fn a_name_is_read_with_the_place_of_its_end() {
+    for (lent, padded, end) in [
+        (b"D:A\x9B".as_slice(), b"A          ", 3),
+        (b"D:A\0", b"A          ", 3),
+        (b"D:A ", b"A          ", 3),
+        (b"D:A    \x9B", b"A          ", 3),
+        (b"D:A B\x9B", b"A          ", 3),
+        (b"D:A. ", b"A          ", 4),
+        (b"D1:A.TXT\x9B", b"A       TXT", 8),
+        (b"D1:ABCDEFGH.TXT  ", b"ABCDEFGHTXT", 15),
+    ] {
+        let padded = *padded;
+        assert_eq!(read_name(lent), Ok(ReadName { padded, end }), "{lent:?}");
+    }
+    for (lent, status) in [
+        (b"D:A".as_slice(), Status::BadName),
+        (b"D: ", Status::BadName),
+        (b"D: A\x9B", Status::BadName),
+        (b"D2:A ", Status::BadUnit),
+        (b"E:A ", Status::BadDevice),
+        (b"", Status::BadDevice),
+    ] {
+        assert_eq!(read_name(lent), Err(status), "{lent:?}");
+        assert_eq!(raw::name(lent, &mut [0; 11]), status.number().into());
+    }
+}
+
+#[test]
+fn a_blank_ends_names_that_are_lent_as_they_are() {
+    let mut disk = Disk::fresh();
+    make(&mut disk, "A", b"bytes");
+    let mut call = |command, name: &[u8]| {
+        let answer = disk.cio(0, command, 0, name, &mut []);
+        (answer.status, answer.count)
+    };
+    assert_eq!(call(command::STATUS, b"D:A B\x9B"), (Status::Success, 0));
+    assert_eq!(call(command::RENAME, b"D:A ,B "), (Status::BadName, 0));
+    assert_eq!(call(command::RENAME, b"D:A,B "), (Status::Success, 0));
+    assert_eq!(call(command::STATUS, b"D:B "), (Status::Success, 0));
+    assert_eq!(call(command::STATUS, b"D: "), (Status::BadName, 0));
+    assert_eq!(call(command::FORMAT, b"D1: "), (Status::Success, 0));
+    assert!(disk.image() == Disk::fresh().image());
 }
 
 #[test]

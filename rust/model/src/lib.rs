@@ -1,11 +1,11 @@
 //! A second program for the rules of timing-desk disks.
 //!
 //! The paper *Timing-desk disks: what is served, and the precise rules* says what every call on
-//! a disk image does; of *Later customer requests* P4 adds the write-protect notch, P8 takes the
-//! row 161 out and P13 adds ATR images and double density. This crate does what they say, in
-//! plain Rust, written from them and from nothing else. It shares no code with the proved
-//! library, which makes it of use twice: the two are compared byte for byte on many disks (package
-//! `compare`), and it is the measure for the library's speed.
+//! a disk image does; of *Later customer requests* P4 adds the write-protect notch, P5 lets a blank
+//! end a name, P8 takes the row 161 out and P13 adds ATR images and double density. This crate does
+//! what they say, in plain Rust, written from them and from nothing else. It shares no code with the
+//! proved library, which makes it of use twice: the two are compared byte for byte on many disks
+//! (package `compare`), and it is the measure for the library's speed.
 //!
 //! The modules follow the paper's sections:
 //!
@@ -15,7 +15,7 @@
 //! | [`disk`], [`volume`], [`directory`], [`file`](mod@file) | The disk: its sectors, volume table, directory, file sectors and chains |
 //! | [`sound`] | The disk: when a disk with its channels is *sound* |
 //! | [`channel`] | The channels |
-//! | [`names`] | Commands: names |
+//! | [`names`] | Commands: names; request P5: names that end in a blank |
 //! | `commands`, `transfer` | Commands, status numbers and their order |
 //! | `recovery`, `sectors`, `showing` | Recovery, Sectors, Showing |
 //! | `notch` | request P4: the write-protect notch |
@@ -135,7 +135,8 @@ impl<V: Variant> Model<V> {
         number(self.run_thin_put(image, notch, words, buffer))
     }
 
-    /// Takes a name apart into its eleven padded bytes, or answers its refusal.
+    /// Takes a name apart into its eleven padded bytes, or answers its refusal; the count is the
+    /// place of its ending byte.
     #[inline(never)]
     pub fn name(self, name: &[u8], eleven: &mut [u8]) -> u64 {
         number(self.run_name(name, eleven))

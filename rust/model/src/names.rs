@@ -1,17 +1,17 @@
 //! "Commands": names, and what is legal in a slot.
 //!
 //! A name is `D:` or `Dn:`, then a letter and up to seven letters or digits, then optionally a
-//! point and up to three letters or digits; capitals only; ended by 0 or `$9B`. What follows the
-//! ending byte is not looked at.
+//! point and up to three letters or digits; capitals only; ended by 0 or `$9B`, and by request P5
+//! by a blank too. What follows the ending byte is not looked at.
 
 use crate::directory::Name;
 use crate::fault::{Fault, Variant};
-use crate::status::{Outcome, Status};
+use crate::status::{Outcome, Status, Stop};
 use crate::Model;
 
 /// The bytes that end a name.
 const fn is_ending(byte: u8) -> bool {
-    matches!(byte, 0 | 0x9b)
+    matches!(byte, 0 | 0x9b | b' ')
 }
 
 /// The bytes that a name is made of.
@@ -58,18 +58,47 @@ impl<V: Variant> Model<V> {
         Ok(name)
     }
 
-    /// The text up to its ending byte.
-    fn ended(self, bytes: &[u8]) -> Result<&[u8], Status> {
-        match bytes.iter().position(|&byte| is_ending(byte)) {
-            Some(end) => Ok(&bytes[..end]),
-            None if self.wrong(Fault::NoEndingByte) => Ok(bytes),
-            None => Err(Status::WrongName),
+    /// The text up to its ending byte, and the bytes from there on. A model with the fault
+    /// `no_blank` takes no blank for an ending byte.
+    fn ended(self, bytes: &[u8], no_blank: Fault) -> Result<(&[u8], &[u8]), Status> {
+        let end = match bytes.iter().position(|&byte| is_ending(byte)) {
+            Some(end) => end,
+            None if self.wrong(Fault::NoEndingByte) => bytes.len(),
+            None => return Err(Status::WrongName),
+        };
+        let (text, behind) = bytes.split_at(end);
+        if self.refuses_blank(text, behind, no_blank) {
+            return Err(Status::WrongName);
         }
+        Ok((text, behind))
+    }
+
+    /// Whether a text ends in a blank, and this model is wrong about it.
+    fn refuses_blank(self, text: &[u8], behind: &[u8], no_blank: Fault) -> bool {
+        behind.starts_with(b" ")
+            && (self.wrong(no_blank)
+                || self.wrong(Fault::BlankBehindPoint) && text.ends_with(b".")
+                || self.wrong(Fault::LongPadding) && blanks(behind) > 255
+                || self.wrong(Fault::BlanksPadOnly) && !pads_only(behind))
+    }
+
+    /// The text of the name of one file, and the bytes from its ending byte on.
+    fn file_text(self, name: &[u8]) -> Result<(&[u8], &[u8]), Status> {
+        self.ended(self.behind_device(name)?, Fault::BlankEndsNoName)
+    }
+
+    /// The eleven bytes of the name of one file, from what [`Self::file_text`] gives.
+    fn file_eleven(self, text: &[u8], behind: &[u8]) -> Result<Name, Status> {
+        if self.wrong(Fault::BlanksPassedOver) {
+            return self.eleven(&without_blanks(&[text, behind].concat()));
+        }
+        self.eleven(text)
     }
 
     /// The name of one file.
     pub(crate) fn file_name(self, name: &[u8]) -> Result<Name, Status> {
-        self.eleven(self.ended(self.behind_device(name)?)?)
+        let (text, behind) = self.file_text(name)?;
+        self.file_eleven(text, behind)
     }
 
     /// The two names of `D:OLD,NEW`. The first ends at the comma only, the second, which has no
@@ -80,8 +109,13 @@ impl<V: Variant> Model<V> {
             .iter()
             .position(|&byte| byte == b',')
             .ok_or(Status::WrongName)?;
-        let old = self.eleven(&names[..comma])?;
-        let mut new = self.eleven(self.ended(&names[comma + 1..])?)?;
+        let mut old = &names[..comma];
+        if self.wrong(Fault::BlankEndsFirstName) {
+            old = old.split(|&byte| byte == b' ').next().unwrap_or(old);
+        }
+        let old = self.eleven(old)?;
+        let (new, _) = self.ended(&names[comma + 1..], Fault::BlankEndsNoSecondName)?;
+        let mut new = self.eleven(new)?;
         if self.wrong(Fault::ZeroPadding) {
             new.iter_mut()
                 .filter(|byte| **byte == b' ')
@@ -93,20 +127,71 @@ impl<V: Variant> Model<V> {
     /// `D:` alone, as format takes it.
     pub(crate) fn device_alone(self, name: &[u8]) -> Result<(), Status> {
         match self.behind_device(name)? {
+            [b' ', ..] if self.wrong(Fault::BlankEndsNoDevice) => Err(Status::WrongName),
+            rest @ [b' ', ..] if self.wrong(Fault::DevicePaddedOnly) && !pads_only(rest) => {
+                Err(Status::WrongName)
+            }
             [end, ..] if is_ending(*end) => Ok(()),
             _ => Err(Status::WrongName),
         }
     }
 
-    /// The call that takes a name apart. The eleven bytes stay as they were with a refusal.
+    /// The call that takes a name apart; its count is the place of the ending byte. The eleven
+    /// bytes stay as they were with a refusal.
     pub(crate) fn run_name(self, name: &[u8], eleven: &mut [u8]) -> Outcome {
         let eleven: &mut Name = eleven.try_into().map_err(|_| Status::Malformed)?;
         if self.wrong(Fault::RefusedNameWritten) {
             *eleven = [b' '; 11];
         }
-        *eleven = self.file_name(name)?;
-        Ok(0)
+        let refused = |status| self.refused_name(name, status);
+        let (text, behind) = self.file_text(name).map_err(refused)?;
+        *eleven = self.file_eleven(text, behind).map_err(refused)?;
+        Ok(self.place(name, text, behind))
     }
+
+    /// A refused name reports no place.
+    fn refused_name(self, name: &[u8], status: Status) -> Stop {
+        let mut stop = Stop::from(status);
+        if self.wrong(Fault::RefusedNamePlace) {
+            let end = name.iter().position(|&byte| is_ending(byte));
+            stop.count = end.unwrap_or_default();
+        }
+        stop
+    }
+
+    /// The place of the ending byte, counted from 0 at the `D`.
+    fn place(self, name: &[u8], text: &[u8], behind: &[u8]) -> usize {
+        let place = name.len() - behind.len();
+        if self.wrong(Fault::PlaceBehindEnding) {
+            return place + 1;
+        }
+        if self.wrong(Fault::PlaceFromText) {
+            return text.len();
+        }
+        if self.wrong(Fault::PlaceOfLastBlank) {
+            return place + blanks(behind).saturating_sub(1);
+        }
+        if self.wrong(Fault::PlaceBehindPadding) && pads_only(behind) {
+            return place + blanks(behind);
+        }
+        place
+    }
+}
+
+/// How many blanks the bytes begin with.
+fn blanks(bytes: &[u8]) -> usize {
+    bytes.iter().take_while(|&&byte| byte == b' ').count()
+}
+
+/// Behind their blanks the bytes are at their end, or 0 or `$9B` follows.
+fn pads_only(bytes: &[u8]) -> bool {
+    matches!(bytes[blanks(bytes)..], [] | [0 | 0x9b, ..])
+}
+
+/// The bytes up to 0, `$9B` or their end, without the blanks among them.
+fn without_blanks(bytes: &[u8]) -> Vec<u8> {
+    let text = bytes.iter().take_while(|byte| !matches!(byte, 0 | 0x9b));
+    text.copied().filter(|&byte| byte != b' ').collect()
 }
 
 /// The eleven bytes are those that some name gives: a letter first, and blanks only behind

@@ -1,7 +1,7 @@
 use mathlib.Core.Path.{sym}
 use native.Mathlib.Omega.{arith}
 use borrow.Author.Needs.{needs}
-use Rattle.chars.proofs.Inside.{char-inside, char-past}
+use Rattle.layout.proofs.Text.{char-inside, char-past}
 use Rattle.chars.proofs.char.Statement.{statement}
 use Rattle.chars.proofs.char.Tie as tie
 

@@ -21,9 +21,12 @@ whole-end-requires c κs = search needs
 well-formed-requires : tie.Need-well-formed-requires
 well-formed-requires c κs = search needs
 
+refused-requires : tie.Need-refused-requires
+refused-requires c κs = search needs
+
 returns : tie.Need-returns
 unfolding nameAt
-returns c = let f = c .before .well-formed in rw (← f .ensures, not-true (f .result) (c .if1 .taken))
+returns c = let f = c .before .before .well-formed in rw (← f .ensures, not-true (f .result) (c .before .if1 .taken)) (c .refused .ensures)
 
 name-word-requires : tie.Need-name-word-requires
 name-word-requires c κs = let h = inside c in omega arith
@@ -40,4 +43,4 @@ returns-2 c = let f = c .before .before .before .well-formed in rw (← f .ensur
 
 pub name-at-spec : {M : Type 1} → statement M
 name-at-spec =
-    tie.close (tie.spec name-end-requires whole-end-requires well-formed-requires returns name-word-requires add-extension-word extension-word-requires returns-2)
+    tie.close (tie.spec name-end-requires whole-end-requires well-formed-requires refused-requires returns name-word-requires add-extension-word extension-word-requires returns-2)

@@ -1,6 +1,7 @@
+use Prim.Native.Nat.{_+_}
 use borrow.Author.Needs.{needs}
-use Rattle.layout.proofs.Tells.{tells-name}
-use Rattle.layout.specs.Names.{newName}
+use Rattle.layout.proofs.Tells.{tells-name-of}
+use Rattle.layout.specs.Names.{body, wholeEnd, newName}
 use Rattle.names.proofs.new_name.Statement.{statement}
 use Rattle.names.proofs.new_name.Tie as tie
 
@@ -21,7 +22,7 @@ name-at-requires c κs = search needs
 
 returns : tie.Need-returns
 unfolding newName
-returns c = tells-name (cc)
+returns c = let text = c .before .before .before .before .before .args .text .now in tells-name-of (newName text) (wholeEnd text (wholeEnd text (body text) + 1)) {r = c .name-at .result} (cc)
 
 pub new-name-spec : {M : Type 1} → statement M
 new-name-spec =

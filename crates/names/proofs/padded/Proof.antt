@@ -3,7 +3,7 @@ use native.Mathlib.Omega.{arith}
 use borrow.Author.Tests.{lt-ltb, le-ltb}
 use borrow.Author.Needs.{needs}
 use Rattle.layout.specs.Names.{padded}
-use Rattle.chars.proofs.Inside.{char-inside}
+use Rattle.layout.proofs.Text.{char-inside}
 use Rattle.names.proofs.padded.Statement.{statement}
 use Rattle.names.proofs.padded.Tie as tie
 

@@ -48,7 +48,7 @@ impl Generator {
             2 => text = b"ABCDEFGHI".to_vec(),
             3 => text = b"A.ABCD".to_vec(),
             4 => text.extend(b".A.B"),
-            5 => text.push(b' '),
+            5 => text.insert(0, b' '),
             6 => text.push(b','),
             7 => text.insert(0, b'.'),
             8 => text.clear(),
@@ -74,17 +74,49 @@ impl Generator {
         }
     }
 
-    /// The ending byte, now and then with bytes behind it; none if asked for.
-    fn ending(&mut self, bad: bool) -> Vec<u8> {
+    /// The ending byte of a name that is so many bytes long before it, now and then with bytes
+    /// behind it; none if asked for.
+    fn ending(&mut self, length: usize, bad: bool) -> Vec<u8> {
         if bad {
             return Vec::new();
         }
+        if self.random.chance(350) {
+            return self.padding(length);
+        }
         let mut ending = vec![self.random.pick(&[0x9b, 0x9b, 0])];
         if self.random.chance(100) {
-            let length = self.random.between(1, 4);
-            ending.extend(self.random.bytes(length));
+            ending.extend(self.few_bytes());
         }
         ending
+    }
+
+    /// Blanks, a few or up to a length that names are padded to or hundreds, and what may stand
+    /// behind them: nothing, an ending byte, any bytes, a text.
+    fn padding(&mut self, length: usize) -> Vec<u8> {
+        let blanks = match self.random.below(20) {
+            0..14 => self.random.between(1, 4),
+            14..19 => {
+                let whole = self.random.pick(&[14usize, 15, 20]);
+                whole.saturating_sub(length).max(1)
+            }
+            _ => self.random.between(100, 600),
+        };
+        let behind = match self.random.below(6) {
+            0 => Vec::new(),
+            1 | 2 => vec![0x9b],
+            3 => vec![0],
+            4 => self.few_bytes(),
+            _ => {
+                let joint = self.random.pick(&[b"".as_slice(), b".", b","]);
+                [joint, &self.legal_text(), b"\x9b"].concat()
+            }
+        };
+        [vec![b' '; blanks], behind].concat()
+    }
+
+    fn few_bytes(&mut self) -> Vec<u8> {
+        let length = self.random.between(1, 4);
+        self.random.bytes(length)
     }
 
     /// The name of one file: so often of a thousand that of a slot.
@@ -97,14 +129,14 @@ impl Generator {
         } else {
             self.text(world, of_slot)
         };
-        let ending = self.ending(place == 3);
+        let ending = self.ending(device.len() + text.len(), place == 3);
         [device, &text, &ending].concat()
     }
 
     /// The two names of a rename.
     pub(super) fn two_names(&mut self, world: &World) -> Vec<u8> {
         let bad = self.random.chance(2 * self.style.bad_names);
-        let place = if bad { self.random.below(8) } else { 9 };
+        let place = if bad { self.random.below(9) } else { 9 };
         let device = self.device(place == 0);
         let old = if place == 1 {
             self.bad_text(world)
@@ -122,9 +154,11 @@ impl Generator {
             4 => b"",
             5 => b",,",
             6 => b"\x9b,",
+            7 => self.random.pick(&[b" ,".as_slice(), b"    ,"]),
             _ => b",",
         };
-        let ending = self.ending(place == 7);
+        let length = device.len() + old.len() + comma.len() + new.len();
+        let ending = self.ending(length, place == 8);
         [device, &old, comma, &new, &ending].concat()
     }
 
@@ -138,7 +172,7 @@ impl Generator {
         } else {
             Vec::new()
         };
-        let ending = self.ending(place == 2);
+        let ending = self.ending(device.len() + text.len(), place == 2);
         [device, &text, &ending].concat()
     }
 }

@@ -4,6 +4,7 @@ mod files;
 mod folder;
 mod images;
 mod kinds;
+mod names;
 mod notch;
 mod pasted;
 mod shell;

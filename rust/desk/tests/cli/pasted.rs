@@ -32,6 +32,14 @@ fn expected(step: &Step, reply: Option<Reply>) -> Vec<String> {
     }
 }
 
+/// Whether the step takes a name apart that has blanks behind it.
+fn has_read_padded_name(step: &Step, reply: Option<&Reply>) -> bool {
+    let (Step::Call { call, .. }, Some(reply)) = (step, reply) else {
+        return false;
+    };
+    matches!(call, Call::Name { name, .. } if name.contains(&b' ') && reply.answer % 256 == 1)
+}
+
 /// What the shell printed, without messages and bytes, and without what is no answer.
 fn answers(printed: &str) -> Vec<String> {
     let answer = |line: &str| match line.split_once("; count ") {
@@ -50,7 +58,7 @@ fn answers(printed: &str) -> Vec<String> {
 #[test]
 fn every_line_of_the_comparison_answers_as_the_model_does() {
     let folder = Folder::new();
-    let mut protected = 0;
+    let (mut protected, mut padded) = (0, 0);
     for seed in 0..60 {
         let mut world = World::fresh(Kind::Raw);
         let mut generator = Generator::new(seed);
@@ -59,6 +67,7 @@ fn every_line_of_the_comparison_answers_as_the_model_does() {
         while let Some(step) = generator.next(&world) {
             script += &format!("{step}\n");
             let reply = world.run(MODEL, &step);
+            padded += usize::from(has_read_padded_name(&step, reply.as_ref()));
             wanted.extend(expected(&step, reply));
         }
         let image = format!("disk{seed}");
@@ -71,6 +80,7 @@ fn every_line_of_the_comparison_answers_as_the_model_does() {
         protected += wanted.iter().filter(refused).count();
     }
     assert!(protected > 0, "no call has the notch closed");
+    assert!(padded > 0, "no name is padded with blanks");
 }
 
 /// The cases that the comparison prints for two faults of the model, where it is lent an image of another length.

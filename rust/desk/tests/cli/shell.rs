@@ -248,7 +248,7 @@ record 0 0 0 0 0
 record 1 0
   0000  00                                               .
 170 no deleted file is in this slot; count 0
-1 success; count 0
+1 success; count 7
   0000  41 20 20 20 20 20 20 20 54 58 54                 A       TXT
 160 no such drive: there is only drive 1; count 0
   0000  00 00 00 00 00 00 00 00 00 00 00                 ...........

@@ -26,8 +26,8 @@ fn example_2_names() {
         let answer = answer(model::name(bytes, &mut eleven));
         (answer, eleven)
     };
-    assert_eq!(name(b"D:A\x9b"), ((1, 0), *b"A          "));
-    assert_eq!(name(b"D:A\0"), ((1, 0), *b"A          "));
+    assert_eq!(name(b"D:A\x9b"), ((1, 3), *b"A          "));
+    assert_eq!(name(b"D:A\0"), ((1, 3), *b"A          "));
     assert_eq!(name(b"D2:A\x9b"), ((160, 0), *b"unchanged.."));
     assert_eq!(name(b"E:A\x9b"), ((130, 0), *b"unchanged.."));
     assert_eq!(name(b"D:1A\x9b"), ((165, 0), *b"unchanged.."));
@@ -37,7 +37,11 @@ fn example_2_names() {
 #[test]
 fn example_3_long_names() {
     let mut eleven = [0; 11];
-    assert_eq!(model::name(b"D:ABCDEFGH.TXT\x9b", &mut eleven), 1);
+    let place = 14;
+    assert_eq!(
+        model::name(b"D:ABCDEFGH.TXT\x9b", &mut eleven),
+        1 + 256 * place
+    );
     assert_eq!(&eleven, b"ABCDEFGHTXT");
     assert_eq!(model::name(b"D:ABCDEFGHI.TXT\x9b", &mut eleven), 165);
 }

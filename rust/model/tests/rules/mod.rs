@@ -3,6 +3,7 @@
 mod common;
 
 mod bench_examples;
+mod blanks;
 mod channels;
 mod notch;
 mod status_table;

@@ -181,7 +181,7 @@ fn row_130_160_165_names() {
                 b"D:a\x9b",
                 b"D:1A\x9b",
                 b"D:.X\x9b",
-                b"D:A B\x9b",
+                b"D: A\x9b",
                 b"D:ABCDEFGHI\x9b",
                 b"D:A.ABCD\x9b",
                 b"D:A.B.C\x9b",
@@ -200,8 +200,12 @@ fn row_130_160_165_names() {
             assert_eq!(u64::from(status), model::name(name, &mut [0; 11]));
         }
     }
-    for name in [b"D:A.\x9b.".as_slice(), b"D1:A\0,", b"D:A\x9ba"] {
-        assert_eq!(model::name(name, &mut [0; 11]), 1);
+    for (name, place) in [
+        (b"D:A.\x9b.".as_slice(), 4),
+        (b"D1:A\0,", 4),
+        (b"D:A\x9ba", 3),
+    ] {
+        assert_eq!(answer(model::name(name, &mut [0; 11])), (1, place));
     }
 }
 
