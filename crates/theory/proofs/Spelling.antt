@@ -11,6 +11,7 @@ use lib.Dec.{eqb, ltb}
 use lib.ListN.{length, List·getD-append}
 use lib.Seq.{getD-at}
 use borrow.Author.Tests.{eqb-true, eqb-false, ne-eqb, eq-eqb, lt-ltb, le-ltb, not-true}
+use Rattle.layout.specs.declared.Name.{Name}
 use Rattle.layout.specs.declared.Name.the-variants.{Is}
 use Rattle.layout.specs.Basics.{if, check, firstFrom, allBelow, valuesFrom}
 use Rattle.layout.specs.Names.{char, capitalD, colon, point, blank, letter, digit, plain, ending, hasDevice, hasUnit, body, notPlain, nameEnd, wholeEnd, wellFormed, padded, asWord, nameByte, nameAt, readAs, readName, parsed, parseName, follows, followsPoint, legal}
@@ -139,6 +140,10 @@ record Holds (w : ℕ → ℕ) (n m z : ℕ) (text : List ℕ) : Type 0 where
   extension : (j : ℕ) → 8 + j < m → char text (3 + n + j) ≡ w (8 + j)
   last : char text (3 + n + (m - 8)) ≡ z
 
+-- the bytes as the two words of a name
+abbrev inWords : (ℕ → ℕ) → Name
+inWords w = Is (asWord w 8) (asWord (λ j. w (8 + j)) 3)
+
 ending-plain : (x : ℕ) → ending x ≡ true → plain x ≡ false
 ending-plain x h = go (plain x) refl
   where
@@ -178,7 +183,7 @@ module _ (w : ℕ → ℕ) (n m : ℕ) (s : Fields w n m) (z : ℕ) (ends : endi
       go (yes i) = padded-in text (2 + n + 1) (3 + n + (m - 8)) j (omega arith) ∙ ap (char text) (omega arith) ∙ h .extension j i
       go (no i) = padded-out text (2 + n + 1) (3 + n + (m - 8)) j (omega arith) ∙ sym (s .rest (8 + j) (omega arith) (omega arith))
 
-  name-is : nameAt ending text 2 ≡ Is (asWord w 8) (asWord (λ j. w (8 + j)) 3)
+  name-is : nameAt ending text 2 ≡ inWords w
   unfolding nameAt wellFormed
   name-is =
       let e : char text 2 ≡ w 0 = let some = s .some in h .name 0 (omega arith) in
@@ -188,12 +193,12 @@ module _ (w : ℕ → ℕ) (n m : ℕ) (s : Fields w n m) (z : ℕ) (ends : endi
   unfolding body
   body-is = rw (h .behind)
 
-  name-read : readName text ≡ Is (asWord w 8) (asWord (λ j. w (8 + j)) 3)
+  name-read : readName text ≡ inWords w
   unfolding readName readAs hasDevice hasUnit check
   name-read = rw (h .device, h .behind, body-is) name-is
 
-  held : parseName text ≡ parsed (Is (asWord w 8) (asWord (λ j. w (8 + j)) 3)) (3 + n + (m - 8))
-  held = parse-is text _ _ name-read ∙ ap (parsed (Is (asWord w 8) (asWord (λ j. w (8 + j)) 3))) (ap (wholeEnd text) body-is ∙ whole-ends)
+  held : parseName text ≡ parsed (inWords w) (3 + n + (m - 8))
+  held = parse-is text _ _ name-read ∙ ap (parsed (inWords w)) (ap (wholeEnd text) body-is ∙ whole-ends)
 
 -- byte x of the spelling, before the ending byte
 spelling : (ℕ → ℕ) → ℕ → ℕ → ℕ
@@ -223,14 +228,17 @@ module _ (w : ℕ → ℕ) (n m : ℕ) (s : Fields w n m) where
   holds z rest = record {
     device = at 0 (omega arith);
     behind = at 1 (omega arith);
-    name = λ j l. at (2 + j) (omega arith) ∙ rw (ne-eqb (2 + j) 0 (λ e. omega arith), ne-eqb (2 + j) 1 (λ e. omega arith), lt-ltb (2 + j) (2 + n) (omega arith)) (ap w (omega arith));
-    dot = at (2 + n) (omega arith) ∙ rw (ne-eqb (2 + n) 0 (λ e. omega arith), ne-eqb (2 + n) 1 (λ e. omega arith), le-ltb (2 + n) (2 + n) (omega arith), eq-eqb (2 + n) (2 + n) refl);
-    extension = λ j l. at (3 + n + j) (omega arith) ∙ rw (ne-eqb (3 + n + j) 0 (λ e. omega arith), ne-eqb (3 + n + j) 1 (λ e. omega arith), le-ltb (3 + n + j) (2 + n) (omega arith), ne-eqb (3 + n + j) (2 + n) (λ e. omega arith)) (ap w (omega arith));
+    name = λ j l. past (2 + j) (omega arith) (omega arith) ∙ rw (lt-ltb (2 + j) (2 + n) (omega arith)) (ap w (omega arith));
+    dot = past (2 + n) (omega arith) (omega arith) ∙ rw (le-ltb (2 + n) (2 + n) (omega arith), eq-eqb (2 + n) (2 + n) refl);
+    extension = λ j l. past (3 + n + j) (omega arith) (omega arith) ∙ rw (le-ltb (3 + n + j) (2 + n) (omega arith), ne-eqb (3 + n + j) (2 + n) (λ e. omega arith)) (ap w (omega arith));
     last = char-behind (spelling w n) long z rest;
   }
     where
       at : (x : ℕ) → x < long → char (spelled-text ++ z ∷ rest) x ≡ spelling w n x
       at = char-value (spelling w n) long z rest
+
+      past : (x : ℕ) → 2 ≤ x → x < long → char (spelled-text ++ z ∷ rest) x ≡ if (ltb x (2 + n)) (w (x - 2)) (if (eqb x (2 + n)) point (w (x - (3 + n) + 8)))
+      past x a l = at x l ∙ rw (ne-eqb x 0 (λ e. omega arith), ne-eqb x 1 (λ e. omega arith))
 
   small : (j : ℕ) → j < 11 → w j < 256
   small j l = go (decLt j n) (decLt j 8) (decLt j m)
@@ -258,5 +266,5 @@ module _ (w : ℕ → ℕ) (n m : ℕ) (s : Fields w n m) where
     word = asWord w 8;
     extension = asWord (λ j. w (8 + j)) 3;
     bytes = spelled-bytes;
-    reads = λ e h rest. held w n m s e h (spelled-text ++ e ∷ rest) (holds e rest) ∙ ap (parsed (Is (asWord w 8) (asWord (λ j. w (8 + j)) 3))) (sym (values-length (spelling w n) long 0));
+    reads = λ e h rest. held w n m s e h (spelled-text ++ e ∷ rest) (holds e rest) ∙ ap (parsed (inWords w)) (sym (values-length (spelling w n) long 0));
   }
