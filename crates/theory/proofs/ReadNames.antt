@@ -18,24 +18,21 @@ use Rattle.layout.proofs.Search.{first-least, first-until}
 use Rattle.layout.proofs.Packed.{packed-same}
 use Rattle.layout.proofs.Text.{passes-inside}
 use Rattle.theory.specs.ReadNames.{endedBefore, isBlank, newNameAs, readDeviceAs, NameKept, DeviceKept, FirstEnding, ReadNames}
-use Rattle.theory.proofs.Names.{plain-ending, name-begins, before-end, Accepted, read-accepted, name-legal, parse-is}
+use Rattle.theory.proofs.Names.{plain-ending, name-begins, before-end, refused-not, Accepted, read-accepted, name-legal, parse-is}
 use Rattle.theory.proofs.Spelling.{legal-fields, has-spelling}
 
 -- What was answered before the request, and what is now.
 
-apart : {n word extension : ℕ} → Refused n ≡ Is word extension → ⊥
-apart h = let z : _≡_ {A = ℕ} 0 1 = cc in omega arith
-
 all-refused : (n : ℕ) → NameKept (Refused n) (Refused n) (Refused n)
-all-refused n = record { accepted = λ _ _ h. h; ended = λ _ _ h. h; only = λ _ _ h. inl h; refused = λ _ h. h; gained = λ _ _ _ _ h. absurd (apart h) }
+all-refused n = record { accepted = λ _ _ h. h; ended = λ _ _ h. h; only = λ _ _ h. inl h; refused = λ _ h. h; gained = λ _ _ _ _ h. absurd (refused-not h) }
 
 -- a letter first, an ending byte of before, a blank: the name or its refusal by each reader
 formed : (word extension : ℕ) (l old b : Bool) → let n = Is word extension in let r = Refused badName in NameKept (if (l && old) n r) (if (l && b) n r) (if (l && (old || b)) n r)
 formed word extension false old b = all-refused badName
 formed word extension true false false = all-refused badName
-formed word extension true false true = record { accepted = λ _ _ h. absurd (apart h); ended = λ _ _ h. h; only = λ _ _ h. inr h; refused = λ _ h. absurd (apart (sym h)); gained = λ _ _ _ h _. cc }
-formed word extension true true false = record { accepted = λ _ _ h. h; ended = λ _ _ h. absurd (apart h); only = λ _ _ h. inl h; refused = λ _ h. h; gained = λ _ _ _ h _. absurd (apart (sym h)) }
-formed word extension true true true = record { accepted = λ _ _ h. h; ended = λ _ _ h. h; only = λ _ _ h. inl h; refused = λ _ h. h; gained = λ _ _ _ h _. absurd (apart (sym h)) }
+formed word extension true false true = record { accepted = λ _ _ h. absurd (refused-not h); ended = λ _ _ h. h; only = λ _ _ h. inr h; refused = λ _ h. absurd (refused-not (sym h)); gained = λ _ _ _ h _. cc }
+formed word extension true true false = record { accepted = λ _ _ h. h; ended = λ _ _ h. absurd (refused-not h); only = λ _ _ h. inl h; refused = λ _ h. h; gained = λ _ _ _ h _. absurd (refused-not (sym h)) }
+formed word extension true true true = record { accepted = λ _ _ h. h; ended = λ _ _ h. h; only = λ _ _ h. inl h; refused = λ _ h. h; gained = λ _ _ _ h _. absurd (refused-not (sym h)) }
 
 at-kept : (text : List ℕ) (i : ℕ) → NameKept (nameAt endedBefore text i) (nameAt isBlank text i) (nameAt ending text i)
 unfolding nameAt wellFormed ending
@@ -123,7 +120,7 @@ module _ (ends : ℕ → Bool) (text : List ℕ) (i word extension : ℕ) (h : n
     where
       go : (b : Bool) → wellFormed ends text i ≡ b → (u v : ℕ) → if b (Is u v) (Refused badName) ≡ Is word extension → wellFormed ends text i ≡ true
       go true e u v r = e
-      go false e u v r = absurd (let z : _≡_ {A = ℕ} 0 1 = cc in omega arith)
+      go false e u v r = absurd (refused-not r)
 
   begins-letter : letter (char text i) ≡ true
   unfolding wellFormed
