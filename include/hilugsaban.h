@@ -66,9 +66,9 @@ enum {
  * it closed everything that could change the image is refused with 144, before
  * names are read:
  *
- *   of dos_cio     DOS_OPEN with DOS_WRITE, DOS_PUT, DOS_RENAME, DOS_DELETE,
- *                  DOS_LOCK, DOS_UNLOCK, DOS_FORMAT, and DOS_CLOSE of a writing
- *                  channel, which then stays open
+ *   of dos_cio     DOS_OPEN with DOS_WRITE, DOS_PUT, DOS_PUT_RECORD, DOS_RENAME,
+ *                  DOS_DELETE, DOS_LOCK, DOS_UNLOCK, DOS_FORMAT, and DOS_CLOSE of a
+ *                  writing channel, which then stays open
  *   of dos_sector  DOS_SECTOR_PUT and DOS_SECTOR_WRITE
  *   and            dos_recover, dos_thin_put, dos_header
  *
@@ -110,8 +110,8 @@ enum {
  * all its five words; one that it changes has 0 in the words marked -, so a
  * channel that it closes is five zeros. Another kind in any of the eight
  * channels, or another length than 40, is refused with 255. A caller may keep,
- * copy or change the words between two calls: every get and put tests its
- * channel against the disk again.
+ * copy or change the words between two calls: every get and put, of a record
+ * too, tests its channel against the disk again.
  */
 enum {
     DOS_WORD_KIND = 0,
@@ -128,16 +128,36 @@ enum {
 
 /* Commands of dos_cio. */
 enum {
-    DOS_OPEN = 3,      /* name; direction DOS_READ or DOS_WRITE; closed channel */
-    DOS_GET = 7,       /* fills the buffer; reading channel */
-    DOS_PUT = 11,      /* adds the buffer to the file's end; writing channel */
-    DOS_CLOSE = 12,    /* any channel */
-    DOS_STATUS = 13,   /* name; 1, 167 or 170; closed channel */
-    DOS_RENAME = 32,   /* name `D:OLD,NEW`; closed channel */
-    DOS_DELETE = 33,   /* name; closed channel */
-    DOS_LOCK = 35,     /* name; closed channel */
-    DOS_UNLOCK = 36,   /* name; closed channel */
-    DOS_FORMAT = 254   /* name `D:` alone; closed channel; an ATR file's header stays */
+    DOS_OPEN = 3,        /* name; direction DOS_READ or DOS_WRITE; closed channel */
+    DOS_GET_RECORD = 5,  /* fills the buffer with a line; reading channel */
+    DOS_GET = 7,         /* fills the buffer; reading channel */
+    DOS_PUT_RECORD = 9,  /* adds a line to the file's end; writing channel */
+    DOS_PUT = 11,        /* adds the buffer to the file's end; writing channel */
+    DOS_CLOSE = 12,      /* any channel */
+    DOS_STATUS = 13,     /* name; 1, 167 or 170; closed channel */
+    DOS_RENAME = 32,     /* name `D:OLD,NEW`; closed channel */
+    DOS_DELETE = 33,     /* name; closed channel */
+    DOS_LOCK = 35,       /* name; closed channel */
+    DOS_UNLOCK = 36,     /* name; closed channel */
+    DOS_FORMAT = 254     /* name `D:` alone; closed channel; an ATR file's header stays */
+};
+
+/*
+ * Lines of text. A line is what stands before an end of line, and that byte.
+ *
+ * DOS_GET_RECORD fills the buffer through the first end of line, and count is
+ * the line's length. A buffer that is full before that answers 137 with the
+ * buffer full: the rest of the line was read and dropped, through its end of line
+ * or to the file's end, also where the next byte is the end of line or the file
+ * ends there. An empty buffer answers 1, and nothing is read.
+ *
+ * DOS_PUT_RECORD writes the buffer through its first end of line, or all of it
+ * and then one. count has the caller's bytes only; an empty buffer writes the end
+ * of line alone, with count 0. Where all of the caller's bytes fit and its own
+ * end of line does not, the answer is 162 with the buffer's length.
+ */
+enum {
+    DOS_END_OF_LINE = 0x9B
 };
 
 /* Directions of DOS_OPEN. Other commands do not look at the direction. */
@@ -159,26 +179,30 @@ enum {
  * Status numbers. The comment says when a call gives each. Where several apply,
  * dos_cio answers the first in this order: 255, 203, 205, 134, 132 or 168
  * (command), 129, 133, 131 or 135, 168 (direction), 144, 130, 160, 165, 163, 170,
- * 167, 200, 164, 201, 169, 162.
+ * 167, 200, 164, 201, 169, 162. 136 and 137 come while bytes are read.
  */
 enum {
     DOS_SUCCESS = 1,           /* done */
     DOS_CHANNEL_OPEN = 129,    /* the command needs a closed channel, this one is open */
     DOS_BAD_DEVICE = 130,      /* the name does not begin with `D:` or `D` digit `:` */
-    DOS_WRITE_ONLY = 131,      /* get on a writing channel */
+    DOS_WRITE_ONLY = 131,      /* get or get record on a writing channel */
     DOS_BAD_COMMAND = 132,     /* command 0 to 2 */
-    DOS_CHANNEL_CLOSED = 133,  /* get or put on a closed channel */
+    DOS_CHANNEL_CLOSED = 133,  /* get or put, or one of a record, on a closed channel */
     DOS_BAD_CHANNEL = 134,     /* channel above 7 */
-    DOS_READ_ONLY = 135,       /* put on a reading channel */
-    DOS_END_OF_FILE = 136,     /* the file ended before the buffer was full; count bytes came */
+    DOS_READ_ONLY = 135,       /* put or put record on a reading channel */
+    DOS_END_OF_FILE = 136,     /* the file ended before the buffer was full, or the line was
+                                  whole; count bytes came */
+    DOS_TRUNCATED = 137,       /* get record: the line did not end within the buffer, which is
+                                  full; the line's rest was dropped */
     DOS_NO_DEVICE = 138,       /* sector call: device not $31 or unit not 1 */
     DOS_BAD_REQUEST = 139,     /* sector call: another command, or sector not 1 to 720 */
     DOS_WRITE_PROTECTED = 144, /* the call could change the image and the notch is closed */
     DOS_BAD_UNIT = 160,        /* the name's device digit is not 1 */
-    DOS_DISK_FULL = 162,       /* no free sector; of a put, count bytes were written */
+    DOS_DISK_FULL = 162,       /* no free sector; of a put or put record, count bytes were
+                                  written */
     DOS_BAD_TABLE = 163,       /* the disk's volume table is not good */
     DOS_BAD_CHAIN = 164,       /* the file's sectors or its channel do not fit together;
-                                  of a get, count bytes came */
+                                  of a get or get record, count bytes came */
     DOS_BAD_NAME = 165,        /* the name is malformed or has no ending byte;
                                   recovery: the name in the slot is not legal */
     DOS_FILE_LOCKED = 167,     /* the file is locked */
@@ -209,15 +233,17 @@ enum {
 /*
  * A CIO command on one channel. The answer is status + 256 * count.
  *
- * count is the number of bytes that a get delivered or a put wrote, and 0 for
- * every other command. Name and buffer are looked at only by the commands that
- * use them. Only a get changes the buffer. Three refusals change something: a
- * get with 136 or 164 has delivered count bytes and left the rest of the
+ * count is the number of bytes that a get or get record delivered, or of the
+ * caller's bytes that a put or put record wrote, and 0 for every other command.
+ * Name and buffer are looked at only by the commands that use them. Only a get or
+ * a get record changes the buffer. Four refusals change something: a get or get
+ * record with 136 or 164 has delivered count bytes and left the rest of the
  * buffer, and its channel stands at the end of the last sector entered, also
- * where the count is 0 (a get whose channel does not fit the disk answers 164
- * before it enters anything, and leaves the channel as it was); a put with 162
- * has written the count bytes that fitted; a close with 164 has closed its
- * channel. A close with 144 has not.
+ * where the count is 0 (one whose channel does not fit the disk answers 164
+ * before it enters anything, and leaves the channel as it was); a get record with
+ * 137 has filled the buffer, and its channel stands behind what was dropped; a put
+ * or put record with 162 has written the count bytes that fitted; a close with 164
+ * has closed its channel. A close with 144 has not.
  */
 uint64_t dos_cio(uint8_t *image, size_t image_length,
                  uint16_t *table, size_t table_length, uint8_t notch,

@@ -2,6 +2,7 @@
 # The script ./desk: it runs the program from any folder, and where it cannot, it says why in a line and exits with 1.
 # What the program refuses with the write-protect notch closed, and that it leaves the image's file alone then.
 # Names padded with blanks, and names that a blank would cut short.
+# Text with newlines here and ends of lines on the disk, and lines in the shell.
 # And what the script shows while the library is being proved, by tools/progress.sh: on lines as rt prints them, then on rt's own.
 set -u
 root=$(cd "$(dirname "$0")/.." && pwd)
@@ -194,6 +195,59 @@ $cut; count 0
 1 success; count 0
 1 success; count 11
   0000  45 4E 44 53 20 20 20 20 44 41 54                 ENDS    DAT
+changes not saved
+END
+"$work/desk" shell MEET.XFD <"$work/script" | diff "$work/wanted" - || { echo "the shell says otherwise (>)"; failed=1; }
+
+# Text has newlines here and ends of lines, $9B, on the disk. A last line without an end has none in either place.
+mkdir "$work/text"
+cd "$work/text" || exit 1
+printf 'LANE 1  29.31\nLANE 2  28.04\nno end' >heat.txt
+"$work/desk" new MEET.XFD || failed=1
+"$work/desk" put --text MEET.XFD heat.txt || failed=1
+"$work/desk" get MEET.XFD HEAT.TXT bytes || failed=1
+! cmp -s heat.txt bytes || { echo "no newline became an end of line"; failed=1; }
+tr '\233' '\n' <bytes | cmp - heat.txt || failed=1
+"$work/desk" get --text MEET.XFD HEAT.TXT back && cmp heat.txt back || failed=1
+
+# What could not be told apart on the way back is refused, and nothing is written.
+expect 1 'desk: bytes: byte 13 is $9B, an end of line, and could not be told from a newline; leave --text out' "$work/desk" put --text MEET.XFD bytes
+"$work/desk" put MEET.XFD heat.txt PLAIN.TXT || failed=1
+expect 1 'desk: PLAIN.TXT: byte 13 is $0A, a newline, and could not be told from an end of line; leave --text out' "$work/desk" get --text MEET.XFD PLAIN.TXT out
+[ ! -e out ] || { echo "a refused file was written"; failed=1; }
+
+# Lines, one longer than its buffer and a last one without an end.
+cat >"$work/script" <<'END'
+open 0 read HEAT.TXT
+get-record 0 40
+get-record 0 6
+get-record 0 40
+get-record 0 40
+close 0
+open 0 write ENDS.TXT
+put-record 0 "LANE 3"
+put-record 0 "LANE 4\x9Bnot written"
+put-record 0 ""
+close 0
+show 2 6
+END
+cat >"$work/wanted" <<'END'
+1 success; count 0
+1 success; count 14
+  0000  4C 41 4E 45 20 31 20 20 32 39 2E 33 31 9B        LANE 1  29.31.
+137 the line did not end within the buffer, and its rest was dropped; count 6
+  0000  4C 41 4E 45 20 32                                LANE 2
+136 the file has ended; count 6
+  0000  6E 6F 20 65 6E 64                                no end
+136 the file has ended; count 0
+1 success; count 0
+1 success; count 0
+1 success; count 6
+1 success; count 7
+1 success; count 0
+1 success; count 0
+yes; offset 640, length 15
+  0000  4C 41 4E 45 20 33 9B 4C 41 4E 45 20 34 9B 9B     LANE 3.LANE 4..
 changes not saved
 END
 "$work/desk" shell MEET.XFD <"$work/script" | diff "$work/wanted" - || { echo "the shell says otherwise (>)"; failed=1; }

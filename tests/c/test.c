@@ -285,6 +285,10 @@ static void refusals(void)
     EXPECT(by_buffer(0, DOS_GET, buffer, 1), DOS_CHANNEL_CLOSED, 0);
     EXPECT(by_buffer(2, DOS_GET, buffer, 1), DOS_WRITE_ONLY, 0);
     EXPECT(by_buffer(1, DOS_PUT, buffer, 1), DOS_READ_ONLY, 0);
+    EXPECT(by_buffer(0, DOS_GET_RECORD, buffer, 1), DOS_CHANNEL_CLOSED, 0);
+    EXPECT(by_buffer(0, DOS_PUT_RECORD, buffer, 1), DOS_CHANNEL_CLOSED, 0);
+    EXPECT(by_buffer(2, DOS_GET_RECORD, buffer, 1), DOS_WRITE_ONLY, 0);
+    EXPECT(by_buffer(1, DOS_PUT_RECORD, buffer, 1), DOS_READ_ONLY, 0);
     EXPECT(by_name(0, DOS_OPEN, 5, "D:A"), DOS_NOT_SERVED, 0);
     EXPECT(by_name(0, DOS_OPEN, DOS_READ, "D:C"), DOS_NOT_FOUND, 0);
     EXPECT(by_name(0, DOS_DELETE, 0, "D:A"), DOS_FILE_HELD, 0);
@@ -337,6 +341,96 @@ static void damage(void)
     EXPECT(by_name(0, DOS_OPEN, DOS_READ, "D:A"), DOS_SUCCESS, 0);
     EXPECT(by_buffer(0, DOS_GET, out, sizeof out), DOS_BAD_CHAIN, kind->data);
     HOLDS(unchanged() && memcmp(out, buffer, kind->data) == 0);
+}
+
+/* A put record of a text, without the 0 that ends it. */
+static uint64_t put_line(const char *text)
+{
+    uint8_t bytes[16];
+    size_t length = strlen(text);
+
+    memcpy(bytes, text, length);
+    return by_buffer(0, DOS_PUT_RECORD, bytes, length);
+}
+
+/* The file A, which channel 0 wrote, is closed and read from its beginning. */
+static void read_again(void)
+{
+    EXPECT(by_buffer(0, DOS_CLOSE, NULL, 0), DOS_SUCCESS, 0);
+    EXPECT(by_name(0, DOS_OPEN, DOS_READ, "D:A"), DOS_SUCCESS, 0);
+}
+
+/* Lines put and got, one longer than the buffer, and a last one without its end. */
+static void records(void)
+{
+    uint8_t out[4];
+
+    fresh();
+    EXPECT(by_name(0, DOS_OPEN, DOS_WRITE, "D:A"), DOS_SUCCESS, 0);
+    EXPECT(put_line("one"), DOS_SUCCESS, 3);
+    EXPECT(put_line("two\x9Bnot written"), DOS_SUCCESS, 4);
+    EXPECT(put_line(""), DOS_SUCCESS, 0);
+    EXPECT(put_line("longer"), DOS_SUCCESS, 6);
+    EXPECT(put_line("four"), DOS_SUCCESS, 4);
+    memcpy(out, "end", 3);
+    EXPECT(by_buffer(0, DOS_PUT, out, 3), DOS_SUCCESS, 3);
+    HOLDS(memcmp(sector(4), "one\x9Btwo\x9B\x9Blonger\x9B" "four\x9B" "end", 24) == 0 && ends(4, 0, 0, 24));
+    EXPECT(by_buffer(0, DOS_GET_RECORD, out, 4), DOS_WRITE_ONLY, 0);
+
+    read_again();
+    remember();
+    EXPECT(by_buffer(0, DOS_GET_RECORD, NULL, 0), DOS_SUCCESS, 0);
+    EXPECT(by_buffer(0, DOS_GET_RECORD, out, 4), DOS_SUCCESS, 4);
+    HOLDS(memcmp(out, "one\x9B", 4) == 0);
+    EXPECT(by_buffer(0, DOS_GET_RECORD, out, 4), DOS_SUCCESS, 4);
+    EXPECT(by_buffer(0, DOS_GET_RECORD, out, 4), DOS_SUCCESS, 1);
+    HOLDS(out[0] == DOS_END_OF_LINE && memcmp(out + 1, "wo\x9B", 3) == 0);
+    EXPECT(by_buffer(0, DOS_GET_RECORD, out, 4), DOS_TRUNCATED, 4);
+    HOLDS(memcmp(out, "long", 4) == 0);
+    EXPECT(by_buffer(0, DOS_GET_RECORD, out, 4), DOS_TRUNCATED, 4);
+    HOLDS(memcmp(out, "four", 4) == 0 && table[DOS_WORD_OFFSET] == 21);
+    EXPECT(by_buffer(0, DOS_GET_RECORD, out, 4), DOS_END_OF_FILE, 3);
+    HOLDS(memcmp(out, "endr", 4) == 0);
+    EXPECT(by_buffer(0, DOS_GET_RECORD, out, 4), DOS_END_OF_FILE, 0);
+    EXPECT(put_line(""), DOS_READ_ONLY, 0);
+    HOLDS(unchanged());
+}
+
+/* While a line is dropped the file ends, then its chain is damaged. */
+static void records_dropped(void)
+{
+    uint8_t line[3 * DOS_DOUBLE_SECTOR_BYTES];
+    uint8_t out[2] = {0, 0};
+
+    memset(line, 'x', sizeof line);
+    fresh();
+    EXPECT(by_name(0, DOS_OPEN, DOS_WRITE, "D:A"), DOS_SUCCESS, 0);
+    EXPECT(by_buffer(0, DOS_PUT, line, 2 * kind->data + 1), DOS_SUCCESS, 2 * kind->data + 1);
+    read_again();
+    EXPECT(by_buffer(0, DOS_GET_RECORD, out, 2), DOS_TRUNCATED, 2);
+    HOLDS(memcmp(out, "xx", 2) == 0 && table[DOS_WORD_SECTOR] == 6 && table[DOS_WORD_OFFSET] == 1);
+    EXPECT(by_buffer(0, DOS_GET_RECORD, out, 2), DOS_END_OF_FILE, 0);
+
+    read_again();
+    sector(5)[kind->data] = 1;
+    sector(5)[kind->data + 1] = 360 - 256;
+    memset(out, 0, sizeof out);
+    EXPECT(by_buffer(0, DOS_GET_RECORD, out, 2), DOS_BAD_CHAIN, 2);
+    HOLDS(memcmp(out, "xx", 2) == 0 && table[DOS_WORD_SECTOR] == 5 && table[DOS_WORD_OFFSET] == kind->data);
+}
+
+/* A disk that is full before a put record's own end of line. */
+static void records_full(void)
+{
+    size_t most = 707 * kind->data - 3;
+
+    fresh();
+    EXPECT(by_name(0, DOS_OPEN, DOS_WRITE, "D:A"), DOS_SUCCESS, 0);
+    EXPECT(by_buffer(0, DOS_PUT, buffer, most), DOS_SUCCESS, most);
+    EXPECT(put_line("abc"), DOS_DISK_FULL, 3);
+    HOLDS(memcmp(sector(719) + kind->data - 3, "abc", 3) == 0 && ends(719, 0, 0, kind->data));
+    EXPECT(put_line(""), DOS_DISK_FULL, 0);
+    EXPECT(put_line("\x9B"), DOS_DISK_FULL, 0);
 }
 
 /* A sector call to the device that answers, with a buffer of that length. */
@@ -426,6 +520,8 @@ static void nothing_lent(void)
     EXPECT(by_buffer(1, DOS_GET, NULL, 0), DOS_SUCCESS, 0);
     EXPECT(by_name(2, DOS_OPEN, DOS_WRITE, "D:B"), DOS_SUCCESS, 0);
     EXPECT(by_buffer(2, DOS_PUT, NULL, 0), DOS_SUCCESS, 0);
+    EXPECT(by_buffer(1, DOS_GET_RECORD, NULL, 0), DOS_SUCCESS, 0);
+    EXPECT(by_buffer(2, DOS_PUT_RECORD, NULL, 0), DOS_SUCCESS, 0);
     EXPECT(by_buffer(0, DOS_STATUS, NULL, 0), DOS_BAD_DEVICE, 0);
     EXPECT(by_buffer(0, DOS_RENAME, NULL, 0), DOS_BAD_DEVICE, 0);
     EXPECT(by_buffer(0, DOS_FORMAT, NULL, 0), DOS_BAD_DEVICE, 0);
@@ -524,6 +620,8 @@ static void notch_refuses(void)
         EXPECT(by_name(0, DOS_OPEN, DOS_WRITE, "D:D"), DOS_WRITE_PROTECTED, 0);
         EXPECT(by_buffer(2, DOS_PUT, block, size), DOS_WRITE_PROTECTED, 0);
         EXPECT(by_buffer(2, DOS_PUT, NULL, 0), DOS_WRITE_PROTECTED, 0);
+        EXPECT(by_buffer(2, DOS_PUT_RECORD, block, size), DOS_WRITE_PROTECTED, 0);
+        EXPECT(by_buffer(2, DOS_PUT_RECORD, NULL, 0), DOS_WRITE_PROTECTED, 0);
         EXPECT(by_buffer(2, DOS_CLOSE, NULL, 0), DOS_WRITE_PROTECTED, 0);
         EXPECT(by_name(0, DOS_RENAME, 0, "D:A,D"), DOS_WRITE_PROTECTED, 0);
         EXPECT(by_name(0, DOS_DELETE, 0, "D:A"), DOS_WRITE_PROTECTED, 0);
@@ -567,6 +665,7 @@ static void notch_reads(void)
     remember();
     notch = DOS_NOTCH_CLOSED;
     EXPECT(by_buffer(1, DOS_GET, out, 3), DOS_SUCCESS, 3);
+    EXPECT(by_buffer(1, DOS_GET_RECORD, out, 3), DOS_END_OF_FILE, 0);
     EXPECT(by_buffer(1, DOS_CLOSE, NULL, 0), DOS_SUCCESS, 0);
     EXPECT(by_buffer(1, DOS_CLOSE, NULL, 0), DOS_SUCCESS, 0);
     EXPECT(by_name(1, DOS_OPEN, DOS_READ, "D:A"), DOS_SUCCESS, 0);
@@ -626,7 +725,7 @@ static void before_notch(void)
     EXPECT(dos_header(image, DOS_IMAGE_BYTES, notch), DOS_BAD_IMAGE, 0);
     EXPECT(by_name(8, DOS_DELETE, 0, "D:A"), DOS_BAD_CHANNEL, 0);
     EXPECT(by_name(0, 2, 0, "D:A"), DOS_BAD_COMMAND, 0);
-    EXPECT(by_buffer(2, 9, block, 1), DOS_NOT_SERVED, 0);
+    EXPECT(by_buffer(2, 10, block, 1), DOS_NOT_SERVED, 0);
     EXPECT(by_name(1, DOS_OPEN, DOS_WRITE, "D:D"), DOS_CHANNEL_OPEN, 0);
     EXPECT(by_name(1, DOS_DELETE, 0, "D:A"), DOS_CHANNEL_OPEN, 0);
     EXPECT(by_name(2, DOS_FORMAT, 0, "D:"), DOS_CHANNEL_OPEN, 0);
@@ -634,6 +733,8 @@ static void before_notch(void)
     EXPECT(by_buffer(0, DOS_PUT, NULL, 0), DOS_CHANNEL_CLOSED, 0);
     EXPECT(by_buffer(1, DOS_PUT, block, 1), DOS_READ_ONLY, 0);
     EXPECT(by_buffer(1, DOS_PUT, NULL, 0), DOS_READ_ONLY, 0);
+    EXPECT(by_buffer(0, DOS_PUT_RECORD, NULL, 0), DOS_CHANNEL_CLOSED, 0);
+    EXPECT(by_buffer(1, DOS_PUT_RECORD, NULL, 0), DOS_READ_ONLY, 0);
     EXPECT(by_buffer(2, DOS_GET, block, 1), DOS_WRITE_ONLY, 0);
     EXPECT(by_name(0, DOS_OPEN, 5, "E:A"), DOS_NOT_SERVED, 0);
     EXPECT(dos_thin_put(image, length, notch, closed, 5, NULL, 0), DOS_CHANNEL_CLOSED, 0);
@@ -682,6 +783,7 @@ static void behind_notch(void)
     EXPECT(dos_thin_put(image, kind->length, notch, writer, 5, block, 1), DOS_WRITE_PROTECTED, 0);
     sector(360)[3] ^= 1;
     EXPECT(by_buffer(2, DOS_PUT, block, 1), DOS_WRITE_PROTECTED, 0);
+    EXPECT(by_buffer(2, DOS_PUT_RECORD, block, 1), DOS_WRITE_PROTECTED, 0);
     EXPECT(by_name(0, DOS_DELETE, 0, "D:A"), DOS_WRITE_PROTECTED, 0);
     EXPECT(recover(1), DOS_WRITE_PROTECTED, 0);
     notch = DOS_NOTCH_OPEN;
@@ -703,6 +805,9 @@ int main(void)
         refusals();
         all_open();
         damage();
+        records();
+        records_dropped();
+        records_full();
         sectors();
         thin();
         nothing_lent();

@@ -25,8 +25,8 @@ stays (Unlisted n) h = (refl, refl)
 pub refused-other : (g : Geometry) (d : Disk) (t : Table) (k : Command) (c : Block) (text b : List ℕ) → OneOf (0 ∷ 3 ∷ []) (tagOf the-type k) → isGet k ≡ false → isPut k ≡ false
     → command g d t k c text b ≡ outcome (refused (commandStatus k) d t) b
 unfolding command
-refused-other g d t (Moves Get) c text b h p q = absurd (true≢false p)
-refused-other g d t (Moves Put) c text b h p q = absurd (true≢false q)
+refused-other g d t (Moves (Get f)) c text b h p q = absurd (true≢false p)
+refused-other g d t (Moves (Put f)) c text b h p q = absurd (true≢false q)
 refused-other g d t Close c text b h p q = absurd (miss (0 ∷ 3 ∷ []) 1 tt h)
 refused-other g d t (Files f) c text b h p q = absurd (miss (0 ∷ 3 ∷ []) 2 tt h)
 refused-other g d t (Unlisted n) c text b h p q = refl

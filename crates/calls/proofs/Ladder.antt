@@ -8,6 +8,7 @@ use Rattle.layout.specs.Basics.{check}
 use Rattle.layout.specs.Status.{badCommand, notServed}
 use Rattle.rules.specs.declared.Command.{Command}
 use Rattle.rules.specs.declared.Command.the-variants.{Moves, Close, Files, Unlisted}
+use Rattle.rules.specs.declared.Form.the-variants.{Characters, Record}
 use Rattle.rules.specs.declared.Transfer.the-variants.{Get, Put}
 use Rattle.rules.specs.declared.FileCommand.the-variants.{Open, Status, Rename, Delete, Lock, Unlock, Format}
 use Rattle.rules.specs.Cio.{commandOf, commandStatus, TellsCommand}
@@ -21,14 +22,14 @@ pub tells-row : {n m : ℕ} {k : Command} → commandOf m ≡ k → n ≡ m → 
 tells-row r e = tells-command (sym (ap commandOf e ∙ r))
 
 -- the rows
-pub rows : (commandOf 3 ≡ Files Open) × (commandOf 7 ≡ Moves Get) × (commandOf 11 ≡ Moves Put) × (commandOf 12 ≡ Close) × (commandOf 13 ≡ Files Status)
+pub rows : (commandOf 3 ≡ Files Open) × (commandOf 5 ≡ Moves (Get Record)) × (commandOf 7 ≡ Moves (Get Characters)) × (commandOf 9 ≡ Moves (Put Record)) × (commandOf 11 ≡ Moves (Put Characters)) × (commandOf 12 ≡ Close) × (commandOf 13 ≡ Files Status)
     × (commandOf 32 ≡ Files Rename) × (commandOf 33 ≡ Files Delete) × (commandOf 35 ≡ Files Lock) × (commandOf 36 ≡ Files Unlock) × (commandOf 254 ≡ Files Format)
 unfolding commandOf check
-rows = (refl, refl, refl, refl, refl, refl, refl, refl, refl, refl)
+rows = (refl, refl, refl, refl, refl, refl, refl, refl, refl, refl, refl, refl)
 
 -- a number that has no row of its own
 abbrev pub NoRow : ℕ → Type 0
-NoRow n = (((((((((Unit {0} × (n ≢ 3)) × (n ≢ 7)) × (n ≢ 11)) × (n ≢ 12)) × (n ≢ 13)) × (n ≢ 32)) × (n ≢ 33)) × (n ≢ 35)) × (n ≢ 36)) × (n ≢ 254)
+NoRow n = (((((((((((Unit {0} × (n ≢ 3)) × (n ≢ 5)) × (n ≢ 7)) × (n ≢ 9)) × (n ≢ 11)) × (n ≢ 12)) × (n ≢ 13)) × (n ≢ 32)) × (n ≢ 33)) × (n ≢ 35)) × (n ≢ 36)) × (n ≢ 254)
 
 -- commands 0 to 2
 pub is-low : (n : ℕ) → n < 3 → Unlisted badCommand ≡ commandOf n
@@ -36,7 +37,9 @@ unfolding commandOf check
 is-low n h =
     rw (
       ne-eqb n 3 (λ e. omega arith),
+      ne-eqb n 5 (λ e. omega arith),
       ne-eqb n 7 (λ e. omega arith),
+      ne-eqb n 9 (λ e. omega arith),
       ne-eqb n 11 (λ e. omega arith),
       ne-eqb n 12 (λ e. omega arith),
       ne-eqb n 13 (λ e. omega arith),
@@ -53,8 +56,10 @@ pub is-other : (n : ℕ) → NoRow n → 3 ≤ n → Unlisted notServed ≡ comm
 unfolding commandOf check
 is-other n r h =
     rw (
-      ne-eqb n 3 (r .0 .0 .0 .0 .0 .0 .0 .0 .0 .1),
-      ne-eqb n 7 (r .0 .0 .0 .0 .0 .0 .0 .0 .1),
+      ne-eqb n 3 (r .0 .0 .0 .0 .0 .0 .0 .0 .0 .0 .0 .1),
+      ne-eqb n 5 (r .0 .0 .0 .0 .0 .0 .0 .0 .0 .0 .1),
+      ne-eqb n 7 (r .0 .0 .0 .0 .0 .0 .0 .0 .0 .1),
+      ne-eqb n 9 (r .0 .0 .0 .0 .0 .0 .0 .0 .1),
       ne-eqb n 11 (r .0 .0 .0 .0 .0 .0 .0 .1),
       ne-eqb n 12 (r .0 .0 .0 .0 .0 .0 .1),
       ne-eqb n 13 (r .0 .0 .0 .0 .0 .1),

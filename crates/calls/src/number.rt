@@ -2,6 +2,7 @@
 use layout::status;
 use rules::Command;
 use rules::FileCommand;
+use rules::Form;
 use rules::Transfer;
 ghost use mathlib.Core.Path.{_≡_};
 ghost use Rattle.rules.specs.Cio.{commandOf, commandStatus, TellsCommand};
@@ -12,8 +13,10 @@ pub fn command_of(n: u8) -> Command
 {
     match n {
         3 => Command::Files(FileCommand::Open),
-        7 => Command::Moves(Transfer::Get),
-        11 => Command::Moves(Transfer::Put),
+        5 => Command::Moves(Transfer::Get(Form::Record)),
+        7 => Command::Moves(Transfer::Get(Form::Characters)),
+        9 => Command::Moves(Transfer::Put(Form::Record)),
+        11 => Command::Moves(Transfer::Put(Form::Characters)),
         12 => Command::Close,
         13 => Command::Files(FileCommand::Status),
         32 => Command::Files(FileCommand::Rename),

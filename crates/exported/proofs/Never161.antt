@@ -13,7 +13,7 @@ use Rattle.layout.proofs.Members.{member-apart}
 use Rattle.rules.specs.Showing.{shows, shownStart, shownLength}
 use Rattle.rules.proofs.Ends.{by-read}
 use Rattle.words.specs.Result.{resultOf}
-use Rattle.capi.specs.Leaves.{CioLeaves, cioLeaves, GetLeaves, getLeaves, PutLeaves, putLeaves, shownResult, NameLeaves, nameLeaves}
+use Rattle.capi.specs.Leaves.{CioLeaves, cioLeaves, GetLeaves, readLeaves, PutLeaves, writeLeaves, shownResult, NameLeaves, nameLeaves}
 use Rattle.theory.specs.Never161.{EveryStatus}
 use Rattle.theory.proofs.Never161.{numbers, every-status}
 use Rattle.exported.specs.Never161.{Not161, ResultsNever161}
@@ -48,7 +48,7 @@ name-result text b = by-check (λ (o : NameLeaves). Not161 (o .result)) _ _ _ (�
     go (Refused n) e = by-read (λ x. Not161 (resultOf x 0)) (λ q. omega arith) (λ q. omega arith) (λ q. omega arith) ending text n e
 
 pub results-never161 : ResultsNever161
-unfolding cioLeaves getLeaves putLeaves
+unfolding cioLeaves readLeaves writeLeaves
 results-never161 = record {
   cio = λ l ws c text b. by-check (λ (o : CioLeaves). Not161 (o .result)) _ _ _ (λ _ e. omega arith) λ _. results .calls l _ c text b _;
   recover = λ l protected s. results .recoveries l protected s _;

@@ -6,7 +6,7 @@ use Prim.Native.Nat.{ℕ}
 use borrow.Author.Tests.{ne-eqb}
 use Rattle.layout.proofs.Check.{by-check}
 use Rattle.rules.specs.Lists.{Call, cioOf, recoveryOf, protectedIn}
-use Rattle.capi.specs.Leaves.{CioLeaves, closed, cioLeaves, PutLeaves, putLeaves}
+use Rattle.capi.specs.Leaves.{CioLeaves, closed, cioLeaves, PutLeaves, writeLeaves}
 use Rattle.theory.proofs.Protected.{list-image, protects}
 use Rattle.exported.specs.Words.{ImageWords, callWords, words}
 use Rattle.exported.specs.Protected.{WordsProtected}
@@ -21,7 +21,7 @@ call-image (cioOf c text b) x q = by-check (λ (o : CioLeaves). o .image ≡ x .
 call-image (recoveryOf protected s) x q = rw q (protects .recoveries (x .image) s)
 
 pub words-protected : WordsProtected
-unfolding callWords cioLeaves putLeaves
+unfolding callWords cioLeaves writeLeaves
 words-protected = record {
   cio = λ l ws notch channel command direction text b n. by-check (λ (o : CioLeaves). o .image ≡ l) _ _ _ (λ _. refl) λ _. protects .calls l _ _ text b (is-closed notch n);
   recover = λ l notch s n. rw (is-closed notch n) (protects .recoveries l s);

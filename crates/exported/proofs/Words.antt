@@ -1,7 +1,7 @@
 -- A call on words is the call of the rules on the table that they say, and so on along a list: the exported functions run alike to the rules.
 use mathlib.Core.Bool.{true}
 use mathlib.Core.List.{List, [], _∷_}
-use mathlib.Core.Path.{_≡_, refl, ap, _∙_}
+use mathlib.Core.Path.{_≡_, refl, sym, ap, subst, _∙_}
 use Prim.Native.Nat.{ℕ, _+_, _*_, _/_, _%_, _<_}
 use native.Mathlib.Omega.{arith}
 use lib.Dec.{ltb}
@@ -16,7 +16,7 @@ use Rattle.layout.proofs.Check.{by-served}
 use Rattle.layout.proofs.Members.{passes, passes-each}
 use Rattle.rules.specs.declared.Block.{Block}
 use Rattle.rules.specs.Cio.{Outcome, ImageOutcome, cioCall}
-use Rattle.rules.specs.Lists.{Call, cioOf, recoveryOf, run, ImageTable, systemOf, outcomeOn, afterOn, images}
+use Rattle.rules.specs.Lists.{Call, cioOf, recoveryOf, run, ImageTable, systemOf, outcomeOn, afterOn, images, SoundImage}
 use Rattle.rules.proofs.Acts.{Kind, Ends, refuses, reads, reads-none, writes, writes-none, frees, closes, drops, opens, rewrites, makes, tells, renames, deletes, locks, unlocks, formats, restores}
 use Rattle.rules.proofs.Ends.{ends-as}
 use Rattle.words.specs.Result.{resultOf}
@@ -25,8 +25,9 @@ use Rattle.words.proofs.Tables.{table-length, table-eight, words-say, words-tab
 use Rattle.capi.proofs.Laws.{on-table}
 use Rattle.theory.proofs.Never161.{numbers, every-status}
 use Rattle.theory.proofs.Alike.{Alike, demand2-alike, demand3-alike}
-use Rattle.theory.proofs.OnImages.{image-demand2, image-demand3}
-use Rattle.exported.specs.Words.{ImageWords, said, callWords, seen, words, WordsRun, FreshWords, WordsDemand2, WordsDemand3}
+use Rattle.theory.proofs.OnImages.{image-sound, image-demand2, image-demand3}
+use Rattle.theory.proofs.LinesBack.{lines-back}
+use Rattle.exported.specs.Words.{ImageWords, said, callWords, seen, words, WordsRun, FreshWords, WordsDemand2, WordsDemand3, WordsLinesBack}
 
 -- a call leaves as many channels as there were
 many : {g : Geometry} {d : Disk} (t : Table) {k : Kind} {c : Call} {o : Outcome} → Ends g d t k c o → length (o .effect .table .channels) ≡ length (t .channels)
@@ -138,6 +139,11 @@ words-demand2 m x h a = let g = geometryOf m in demand2-alike (words g) (images 
 
 pub words-demand3 : WordsDemand3
 words-demand3 m x h a = let g = geometryOf m in demand3-alike (words g) (images g) g x (said x) (words-alike g x h) (image-demand3 m (said x) a)
+
+pub words-lines-back : WordsLinesBack
+unfolding run
+words-lines-back m x h a = let g = geometryOf m in
+    lines-back (words g) g x (words-demand2 m x h a) (λ c. words-demand2 m (callWords c x .after) (call-table x h c) (subst (SoundImage m) (sym (call-said x h c)) (image-sound m .calls (said x) a (c ∷ []))))
 
 -- forty zeros
 pub fresh-words : FreshWords

@@ -15,6 +15,7 @@ use Rattle.rules.specs.Demand3.{Demand3}
 use Rattle.words.specs.Result.{resultOf}
 use Rattle.words.specs.Words.{isTable, tableOf}
 use Rattle.capi.specs.Leaves.{cioLeaves}
+use Rattle.theory.specs.LinesBack.{LinesBack}
 
 -- what a caller in C keeps between the calls: the image, and the words of the table
 pub record ImageWords : Type 0 where
@@ -75,3 +76,7 @@ WordsDemand2 = (m : Medium) (x : ImageWords) → isTable (x .words) ≡ true →
 
 abbrev pub WordsDemand3 : Type 0
 WordsDemand3 = (m : Medium) (x : ImageWords) → isTable (x .words) ≡ true → SoundImage m (said x) → let g = geometryOf m in Demand3 g (words g) x
+
+-- and lines there and back
+abbrev pub WordsLinesBack : Type 0
+WordsLinesBack = (m : Medium) (x : ImageWords) → isTable (x .words) ≡ true → SoundImage m (said x) → LinesBack (words (geometryOf m)) x

@@ -18,7 +18,7 @@ use Rattle.layout.proofs.Logic.{and-left, and-right, and-no}
 use Rattle.layout.proofs.Data.{data-cases, data-facts}
 use Rattle.gets.specs.declared.whole.Filled.{Filled}
 use Rattle.gets.specs.Entered.{full, leadsOn, Consecutive, Fills}
-use Rattle.gets.proofs.Getting.{gets-start, gets-full}
+use Rattle.gets.proofs.Getting.{comes-start, gets-full}
 
 -- the second run of data sectors begins behind the directory
 pub high-least : (k : ℕ) → dataSector k ≡ true → 360 ≤ k → 369 ≤ k
@@ -63,7 +63,7 @@ module _ {g : Geometry} {d : Disk} {s : ℕ} {w : Filled} {b₀ : List ℕ} wher
   pub counting-holds : 4 ≤ w .sector → w .count ≤ length b₀ → Consecutive g d (w .sector) → Counting g d s w b₀ (w .sector) (w .count) b₀
   counting-holds a h t =
       let none : w .left - (w .sector - w .sector) ≡ w .left = omega arith in
-      record { least = omega arith; within = h; leads = t .leads; fills = rw none (a, gets-start (w .count) _ b₀ h (t .entered)) }
+      record { least = omega arith; within = h; leads = t .leads; fills = rw none (a, comes-start (w .count) _ b₀ h (t .entered)) }
 
   module _ {k i : ℕ} {b : List ℕ} (q : Counting g d s w b₀ k i b) where
     pub counting-again : 0 < g .room → k - w .sector < w .left → i + g .room ≤ length b₀ → leadsOn g d s (k + 1) ≡ true → (c : List ℕ) → c ≡ sets b i (valuesFrom (d (k + 1)) (g .room) 0)

@@ -84,6 +84,14 @@ module _ (g : Geometry) (d : Disk) where
       seek-on zero h e z f = absurd (omega arith)
       seek-on (suc l) h e z f = let q : suc l - 1 ≡ l = omega arith in rw (q, e, z, ← next, f, seek) (ap (λ x. seek g d s x 0 l) (sym next))
 
+  -- where a byte is left, the sector was entered and the search is at its end
+  module _ (p : Place) (t : ByteLeft g d p) where
+    pub left-entered : Entered g d (p .sector)
+    left-entered = record { most = t .high; least = λ _. t .low; small = λ _. t .small }
+
+    pub left-ready : (s : ℕ) → seek g d s (p .sector) (p .offset) (p .left) ≡ Ready p
+    left-ready s = let l = t .low in seek-ready s (p .sector) (p .offset) (p .left) (has-byte (p .sector) (p .offset) (omega arith) (t .within))
+
   -- a full sector has bytes to read, and is the next that the search finds from the end of one before it
   module _ (s t : ℕ) (u : full g d s t ≡ true) where
     pub full-fits : fits g (d t) s t ≡ true

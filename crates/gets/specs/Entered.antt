@@ -8,11 +8,13 @@ use lib.ListN.{length}
 use Rattle.layout.specs.Image.{Disk, Geometry}
 use Rattle.layout.specs.Volume.{dataSector}
 use Rattle.layout.specs.File.{next, inUse, fits}
+use Rattle.rules.specs.declared.Form.{Form}
+use Rattle.rules.specs.declared.Form.the-variants.{Characters}
 use Rattle.rules.specs.declared.Place.{Place}
 use Rattle.gets.specs.declared.whole.Filled.{Filled}
 use Rattle.rules.specs.declared.Seek.{Seek}
 use Rattle.rules.specs.declared.Seek.the-variants.{Ready, Ended, Broken}
-use Rattle.rules.specs.Get.{place, getFrom}
+use Rattle.rules.specs.Get.{place, readFrom}
 
 module _ (g : Geometry) where
   -- an entered sector is on the disk, behind the boot sectors, and holds no more bytes than it can; 0 before any
@@ -42,12 +44,16 @@ module _ (g : Geometry) where
   unfoldable pub full : Disk → ℕ → ℕ → Bool
   full d s k = fits g (d k) s k && eqb (inUse g (d k)) (g .room)
 
-  -- a get of n bytes: at its byte i₀ with place p₀ and buffer b₀ it goes on as at its byte i with place p and buffer b
-  pub record Gets (d : Disk) (s n i₀ : ℕ) (p₀ : Place) (b₀ : List ℕ) (i : ℕ) (p : Place) (b : List ℕ) : Type 0 where
+  -- a reading of n bytes: at its byte i₀ with place p₀ and buffer b₀ it goes on as at its byte i with place p and buffer b
+  pub record Comes (f : Form) (d : Disk) (s n i₀ : ℕ) (p₀ : Place) (b₀ : List ℕ) (i : ℕ) (p : Place) (b : List ℕ) : Type 0 where
     pub least : i₀ ≤ i
     pub most : i ≤ n
     pub entered : Entered d (p .sector)
-    pub same : getFrom g d s (n - i₀) i₀ p₀ b₀ ≡ getFrom g d s (n - i) i p b
+    pub same : readFrom g f d s (n - i₀) i₀ p₀ b₀ ≡ readFrom g f d s (n - i) i p b
+
+  -- so does a get
+  abbrev pub Gets : Disk → ℕ → ℕ → ℕ → Place → List ℕ → ℕ → Place → List ℕ → Type 0
+  Gets = Comes Characters
 
   -- where a get is behind full sectors: at the end of the last of them
   abbrev pub endOf : Filled → Place

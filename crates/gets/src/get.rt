@@ -1,30 +1,26 @@
-// Get on one channel, a sector's run of bytes at a time.
+// The buffer filled from a place on, a sector's run of bytes at a time.
 use super::seek::seek_byte;
 use super::seek::step_in;
 use super::whole::Filled;
 use super::whole::get_whole;
 use files::chain::fits;
 use image::link::in_use;
-use layout::State;
 use layout::density::Medium;
 use layout::status;
-use rules::Advanced;
 use rules::Got;
 use rules::Place;
 use rules::Seek;
-use rules::answers::refused;
 use runs::run::get_run;
 use runs::run::least;
 ghost use mathlib.Core.Path.{_≡_};
 ghost use Prim.Native.Nat.{_<_};
 ghost use lib.ListN.{length};
 ghost use Rattle.layout.specs.Image.{Whole, geometryOf, view};
-ghost use Rattle.layout.specs.declared.State.the-variants.{Reading};
-ghost use Rattle.rules.specs.Get.{advanced, getFrom, readable, getOn};
+ghost use Rattle.rules.specs.Get.{getFrom, readable};
 ghost use Rattle.gets.specs.Entered.{Entered, ByteLeft, Gets, atHand};
 
 // What reading bytes leaves.
-fn got(status: u8, count: usize, place: Place) -> Got
+pub fn got(status: u8, count: usize, place: Place) -> Got
     ensures { λ r. ⌜ r ≡ record { status = status; count = count; place = place } ⌝ }
 {
     Got {
@@ -118,7 +114,7 @@ fn at_hand(m: Medium, image: &[u8], sector: u16, offset: u16, n: usize) -> bool
 }
 
 // The buffer filled from a place on. Few bytes mostly lie in the sector that was entered, or in the next: then there is no loop to prepare for.
-fn get_some(m: Medium, image: &[u8], slot: u16, start: Place, buffer: &mut [u8]) -> Got
+pub fn get_some(m: Medium, image: &[u8], slot: u16, start: Place, buffer: &mut [u8]) -> Got
     requires { ⌜ Whole m (now image) × (slot < 64) × (0 < length (now buffer)) × Entered (geometryOf m) (view (geometryOf m) (now image)) (start .sector) ⌝ }
     ensures { λ r. ⌜ (r ≡ getFrom (geometryOf m) (view (geometryOf m) (now (image .entry))) slot (length (now (buffer .entry))) 0 start (now (buffer .entry)) .got)
         × (now (buffer .exit) ≡ getFrom (geometryOf m) (view (geometryOf m) (now (image .entry))) slot (length (now (buffer .entry))) 0 start (now (buffer .entry)) .buffer) ⌝ }
@@ -155,62 +151,4 @@ pub fn readable(m: Medium, image: &[u8], slot: u16, sector: u16, offset: u16) ->
         return false;
     }
     offset <= in_use(m, image, sector) as u16
-}
-
-// An answer, with the reading channel after it.
-fn reading(status: u8, count: usize, slot: u16, p: Place) -> Advanced
-    ensures { λ r. ⌜ r ≡ advanced status count (Reading slot (p .sector) (p .offset) (p .left)) ⌝ }
-{
-    Advanced {
-        status,
-        count,
-        state: State::Reading {
-            slot,
-            sector: p.sector,
-            offset: p.offset,
-            left: p.left,
-        },
-    }
-}
-
-// Get on a reading channel.
-fn get_reading(m: Medium, image: &[u8], slot: u16, p: Place, buffer: &mut [u8]) -> Advanced
-    requires { ⌜ Whole m (now image) ⌝ }
-    ensures { λ r. ⌜ (r ≡ getOn (geometryOf m) (view (geometryOf m) (now (image .entry))) (Reading slot (p .sector) (p .offset) (p .left)) (now (buffer .entry)) .answer)
-        × (now (buffer .exit) ≡ getOn (geometryOf m) (view (geometryOf m) (now (image .entry))) (Reading slot (p .sector) (p .offset) (p .left)) (now (buffer .entry)) .buffer) ⌝ }
-{
-    if buffer.len() == 0 {
-        return reading(status::SUCCESS, 0, slot, p);
-    }
-    if !readable(m, image, slot, p.sector, p.offset) {
-        return reading(status::BAD_CHAIN, 0, slot, p);
-    }
-    let got = get_some(m, image, slot, p, buffer);
-    let q = got.place;
-    reading(got.status, got.count, slot, q)
-}
-
-// Get on one channel fills the lent buffer.
-pub fn get_on(m: Medium, image: &[u8], st: State, buffer: &mut [u8]) -> Advanced
-    requires { ⌜ Whole m (now image) ⌝ }
-    ensures { λ r. ⌜ (r ≡ getOn (geometryOf m) (view (geometryOf m) (now (image .entry))) st (now (buffer .entry)) .answer)
-        × (now (buffer .exit) ≡ getOn (geometryOf m) (view (geometryOf m) (now (image .entry))) st (now (buffer .entry)) .buffer) ⌝ }
-{
-    match st {
-        State::Closed => refused(status::CHANNEL_CLOSED, st),
-        State::Reading {
-            slot,
-            sector,
-            offset,
-            left,
-        } => {
-            let p = Place {
-                sector,
-                offset,
-                left,
-            };
-            get_reading(m, image, slot, p, buffer)
-        }
-        State::Writing { slot: _, last: _ } => refused(status::WRITE_ONLY, st),
-    }
 }

@@ -105,3 +105,36 @@ pub fn seek_byte(m: Medium, image: &[u8], slot: u16, p: Place) -> Seek
         l -= 1;
     }
 }
+
+// The same for get record. A function with one caller becomes part of it: were there one search for both, each get would be slower, by a tenth to a third.
+pub fn seek_line(m: Medium, image: &[u8], slot: u16, p: Place) -> Seek
+    requires { ⌜ Whole m (now image) × (slot < 64) × Entered (geometryOf m) (view (geometryOf m) (now image)) (p .sector) ⌝ }
+    ensures { λ r. ⌜ (let d = view (geometryOf m) (now (image .entry)) in TellsSeek (seek (geometryOf m) d slot (p .sector) (p .offset) (p .left)) r × Sought (geometryOf m) d r) ⌝ }
+{
+    let mut k = p.sector;
+    let mut o = p.offset;
+    let mut l = p.left;
+    loop {
+        let at = Place {
+            sector: k,
+            offset: o,
+            left: l,
+        };
+        if has_byte(m, image, k, o) {
+            return Seek::Ready(at);
+        }
+        if ends(m, image, k) {
+            return Seek::Ended(at);
+        }
+        if l == 0 {
+            return Seek::Broken(at);
+        }
+        let n = next_to_enter(m, image, slot, k);
+        if !fits(m, image, slot, n) {
+            return Seek::Broken(at);
+        }
+        k = n;
+        o = 0;
+        l -= 1;
+    }
+}

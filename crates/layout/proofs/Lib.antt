@@ -4,6 +4,7 @@ pub mod Update
 pub mod Give
 pub mod Data
 pub mod Check
+pub mod Lines
 pub mod Image
 pub mod Header
 pub mod Run

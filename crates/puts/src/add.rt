@@ -1,10 +1,12 @@
-// Bytes added at a file's end, a sector's run at a time.
+// Bytes added at a file's end, a sector's run at a time; and the one that ends a line.
 use files::gives::give;
+use image::bytes::write_file_byte;
 use image::link::in_use;
 use image::link::write_in_use;
 use image::link::write_link;
 use image::slot::count;
 use image::slot::write_count;
+use layout::END_OF_LINE;
 use layout::density::Density;
 use layout::density::Medium;
 use layout::status;
@@ -19,13 +21,14 @@ use volume::map::less;
 use volume::map::mark_used;
 use volume::map::write_free_count;
 ghost use mathlib.Core.Bool.{true};
+ghost use mathlib.Core.List.{[], _∷_};
 ghost use mathlib.Core.Path.{_≡_};
 ghost use Prim.Native.Nat.{_+_, _-_, _*_, _≤_, _<_};
 ghost use lib.ListN.{length, take, drop};
 ghost use Rattle.layout.specs.Image.{Whole, geometryOf, view};
 ghost use Rattle.layout.specs.Volume.{dataSector, good};
-ghost use Rattle.layout.specs.File.{inUse};
-ghost use Rattle.rules.specs.Put.{roomFor, putFrom};
+ghost use Rattle.layout.specs.File.{endOfLine, inUse};
+ghost use Rattle.rules.specs.Put.{roomFor, addByte, putFrom};
 ghost use Rattle.puts.specs.Run.{addRun, chained, settled, settledFrom};
 ghost use Rattle.puts.specs.Come.{Puts};
 ghost use Rattle.puts.specs.Searched.{Searched, HasRoom};
@@ -266,4 +269,45 @@ pub fn put_some(m: Medium, image: &mut [u8], slot: u16, last: u16, buffer: &[u8]
         return put_new(m, image, slot, last, buffer);
     }
     put_from(m, image, slot, last, buffer)
+}
+
+// The same for a line of text, which mostly finds room in the last sector. By itself, so that put alone comes through the function above and has no call before its first byte.
+pub fn put_short(m: Medium, image: &mut [u8], slot: u16, last: u16, buffer: &[u8]) -> Added
+    requires { ⌜ Whole m (now image) × (slot < 64) × (dataSector last ≡ true) × (good (view (geometryOf m) (now image) 360) ≡ true) ⌝ }
+    ensures { λ r. ⌜ (r ≡ putFrom (geometryOf m) (now (buffer .entry)) (view (geometryOf m) (now (image .entry))) slot last 0 .added)
+        × (view (geometryOf m) (now (image .exit)) ≡ putFrom (geometryOf m) (now (buffer .entry)) (view (geometryOf m) (now (image .entry))) slot last 0 .disk) ⌝ }
+{
+    let room = m.density.room;
+    let had = in_use(m, image, last) as usize;
+    let n = buffer.len();
+    if had + n <= room {
+        add_run(m, image, last, buffer);
+        return added(status::SUCCESS, n, last);
+    }
+    put_from(m, image, slot, last, buffer)
+}
+
+// $9B more in a sector that has room for it.
+fn add_end(m: Medium, image: &mut [u8], sector: u16)
+    requires { ⌜ Whole m (now image) × (4 ≤ sector) × (sector ≤ 720) × (inUse (geometryOf m) (view (geometryOf m) (now image) sector) < m .density .room) ⌝ }
+    ensures { λ _. ⌜ view (geometryOf m) (now (image .exit)) ≡ addByte (geometryOf m) (view (geometryOf m) (now (image .entry))) sector endOfLine ⌝ }
+{
+    let n = in_use(m, image, sector) as usize;
+    write_file_byte(m, image, sector, n, END_OF_LINE);
+    write_in_use(m, image, sector, (n + 1) as u8);
+}
+
+// The $9B behind a line that was added whole. It is none of the caller's bytes, so they are counted as before.
+pub fn put_end(m: Medium, image: &mut [u8], slot: u16, line: Added) -> Added
+    requires { ⌜ Whole m (now image) × (slot < 64) × (dataSector (line .last) ≡ true) × (good (view (geometryOf m) (now image) 360) ≡ true) ⌝ }
+    ensures { λ r. ⌜ (let o = putFrom (geometryOf m) (endOfLine ∷ []) (view (geometryOf m) (now (image .entry))) slot (line .last) (line .count) in
+        (r ≡ record { status = o .added .status; count = line .count; last = o .added .last }) × (view (geometryOf m) (now (image .exit)) ≡ o .disk)) ⌝ }
+{
+    let spot = room(m, image, slot, line.last, 0);
+    let k = spot.sector;
+    if k == 0 {
+        return added(status::DISK_FULL, line.count, line.last);
+    }
+    add_end(m, image, k);
+    added(status::SUCCESS, line.count, k)
 }

@@ -13,6 +13,7 @@ use Rattle.layout.specs.declared.Name.{Name}
 use Rattle.layout.specs.declared.Name.the-variants.{Is}
 use Rattle.layout.specs.declared.Found.the-variants.{At, Nothing}
 use Rattle.rules.specs.declared.Block.{Block}
+use Rattle.rules.specs.declared.Form.{Form}
 use Rattle.rules.specs.declared.Transfer.the-variants.{Get, Put}
 use Rattle.rules.specs.declared.FileCommand.{FileCommand}
 use Rattle.rules.specs.declared.FileCommand.the-variants.{Open, Status, Rename, Delete, Lock, Unlock, Format}
@@ -26,8 +27,8 @@ use Rattle.layout.specs.File.{clean, cleanFree, chain, delete, restore}
 use Rattle.layout.specs.Channels.{stateOf, withState, openAt, anyOpen, held, newSlot}
 use Rattle.layout.specs.Names.{nameByte, readName, oldName, newName, legal}
 use Rattle.layout.specs.Status.{success, channelClosed, writeOnly, writeProtected, badTable, badChain}
-use Rattle.rules.specs.Get.{Reads, place, readable, getFrom, gets, GetOutcome, getKeeps}
-use Rattle.rules.specs.Put.{Adds, writable, putFrom, puts, PutOutcome, putKeeps}
+use Rattle.rules.specs.Get.{Reads, place, readable, fill, gets, GetOutcome, getKeeps}
+use Rattle.rules.specs.Put.{Adds, sent, reported, writable, putFrom, puts, PutOutcome, putKeeps}
 use Rattle.rules.specs.Commands.{Effect, effect, refused, couldChange, done, rewritten, made}
 use Rattle.rules.specs.Cio.{Outcome, outcome, commandOf, Asks}
 use Rattle.rules.specs.Recovery.{recoverable, recovered}
@@ -72,13 +73,13 @@ abbrev pub bytes : {n : Name} → Told n → ℕ → ℕ
 bytes r = nameByte (r .word) (r .extension)
 
 module _ (g : Geometry) (d : Disk) where
-  -- a get on one channel: one that does not read; a sector that cannot be read on; no bytes wanted; bytes read
-  pub data GetEnds (b : List ℕ) : State → GetOutcome → Type 0 where
-    get-closed : GetEnds b Closed (getKeeps channelClosed Closed b)
-    get-writing : (s p : ℕ) → GetEnds b (Writing s p) (getKeeps writeOnly (Writing s p) b)
-    get-broken : (s k o l : ℕ) → readable g d s k o ≡ false → GetEnds b (Reading s k o l) (getKeeps badChain (Reading s k o l) b)
-    get-none : (s k o l : ℕ) → length b ≡ 0 → GetEnds b (Reading s k o l) (getKeeps success (Reading s k o l) b)
-    get-some : (s k o l : ℕ) → length b ≢ 0 → readable g d s k o ≡ true → GetEnds b (Reading s k o l) (gets s (getFrom g d s (length b) 0 (place k o l) b))
+  -- a get or a get record on one channel: one that does not read; a sector that cannot be read on; no bytes wanted; bytes read
+  pub data GetEnds (f : Form) (b : List ℕ) : State → GetOutcome → Type 0 where
+    get-closed : GetEnds f b Closed (getKeeps channelClosed Closed b)
+    get-writing : (s p : ℕ) → GetEnds f b (Writing s p) (getKeeps writeOnly (Writing s p) b)
+    get-broken : (s k o l : ℕ) → readable g d s k o ≡ false → GetEnds f b (Reading s k o l) (getKeeps badChain (Reading s k o l) b)
+    get-none : (s k o l : ℕ) → length b ≡ 0 → GetEnds f b (Reading s k o l) (getKeeps success (Reading s k o l) b)
+    get-some : (s k o l : ℕ) → length b ≢ 0 → readable g d s k o ≡ true → GetEnds f b (Reading s k o l) (gets s (fill g f d s (place k o l) b))
 
   -- why a put on one channel is refused: 144, 163 and 164 tell which test failed
   pub data PutWhy (protected : Bool) : State → ℕ → Type 0 where
@@ -98,8 +99,8 @@ abbrev pub gotten : Disk → Table → ℕ → ℕ → Reads → Outcome
 gotten d t i s r = let p = r .got .place in
     outcome (record { status = r .got .status; count = r .got .count; disk = d; table = withState t i (Reading s (p .sector) (p .offset) (p .left)); given = []; took = Nothing }) (r .buffer)
 
-abbrev pub added : Table → ℕ → ℕ → Adds → Effect
-added t i s a = record { status = a .added .status; count = a .added .count; disk = a .disk; table = withState t i (Writing s (a .added .last)); given = a .given; took = Nothing }
+abbrev pub added : Table → ℕ → ℕ → Form → List ℕ → Adds → Effect
+added t i s f b a = record { status = a .added .status; count = reported f b (a .added .count); disk = a .disk; table = withState t i (Writing s (a .added .last)); given = a .given; took = Nothing }
 
 module _ (g : Geometry) (d : Disk) (t : Table) where
   -- why a call is refused, by what is asked of it: 144, 163 and 164 tell which test failed
@@ -108,8 +109,8 @@ module _ (g : Geometry) (d : Disk) (t : Table) where
     barred : {k : Kind} → protected ≡ true → Why protected k writeProtected
     no-table : {k : Kind} → good (d 360) ≡ false → Why protected k badTable
     no-chain : {f : FileCommand} (w : ℕ → ℕ) (s : ℕ) → find d w ≡ At s → clean g d s ≡ false → Why protected (asks (Files f)) badChain
-    no-read : (i s k o l : ℕ) → i < 8 → stateOf t i ≡ Reading s k o l → readable g d s k o ≡ false → Why protected (asks (Moves Get)) badChain
-    no-write : (i s p : ℕ) → i < 8 → stateOf t i ≡ Writing s p → writable g d s p ≡ false → Why protected (asks (Moves Put)) badChain
+    no-read : {f : Form} (i s k o l : ℕ) → i < 8 → stateOf t i ≡ Reading s k o l → readable g d s k o ≡ false → Why protected (asks (Moves (Get f))) badChain
+    no-write : {f : Form} (i s p : ℕ) → i < 8 → stateOf t i ≡ Writing s p → writable g d s p ≡ false → Why protected (asks (Moves (Put f))) badChain
 
   -- what the checks before an act have shown: this command on a closed channel, and where it could change the image the notch is open
   pub record Ready (c : Block) (k : FileCommand) : Type 0 where
@@ -147,17 +148,17 @@ module _ (g : Geometry) (d : Disk) (t : Table) where
     pub vacant : newSlot d t ≡ At s
     pub room : lowest (d 360) ≢ 0
 
-  pub record Gets (c : Block) (b : List ℕ) (s k o l : ℕ) : Type 0 where
-    pub on : On c (Moves Get)
+  pub record Gets (f : Form) (c : Block) (b : List ℕ) (s k o l : ℕ) : Type 0 where
+    pub on : On c (Moves (Get f))
     pub state : stateOf t (c .channel) ≡ Reading s k o l
     pub wanted : length b ≢ 0
     pub passes : readable g d s k o ≡ true
 
-  pub record Puts (c : Block) (b : List ℕ) (s p : ℕ) : Type 0 where
-    pub on : On c (Moves Put)
+  pub record Puts (f : Form) (c : Block) (b : List ℕ) (s p : ℕ) : Type 0 where
+    pub on : On c (Moves (Put f))
     pub state : stateOf t (c .channel) ≡ Writing s p
     pub permitted : c .protected ≡ false
-    pub waiting : length b ≢ 0
+    pub waiting : length (sent f b) ≢ 0
     pub table : good (d 360) ≡ true
     pub passes : writable g d s p ≡ true
 
@@ -204,12 +205,12 @@ module _ (g : Geometry) (d : Disk) (t : Table) where
   pub data Ends : Kind → Call → Outcome → Type 0 where
     -- a refusal: all is as it was
     refuses : {k : Kind} {c : Call} (n : ℕ) → Why (protectedIn c) k n → member n (answersTo c) ≡ true → Ends k c (outcome (refused n d t) (bufferOf c))
-    -- get, of some bytes and of none
-    reads : {c : Block} {text b : List ℕ} (s k o l : ℕ) → Gets c b s k o l → Ends (asks (Moves Get)) (cioOf c text b) (gotten d t (c .channel) s (getFrom g d s (length b) 0 (place k o l) b))
-    reads-none : {c : Block} {text b : List ℕ} → On c (Moves Get) → length b ≡ 0 → Ends (asks (Moves Get)) (cioOf c text b) (outcome (done g d t d t) b)
-    -- put, of some bytes and of none
-    writes : {c : Block} {text b : List ℕ} (s p : ℕ) → Puts c b s p → Ends (asks (Moves Put)) (cioOf c text b) (outcome (added t (c .channel) s (putFrom g b d s p 0)) b)
-    writes-none : {c : Block} {text b : List ℕ} → On c (Moves Put) → length b ≡ 0 → Ends (asks (Moves Put)) (cioOf c text b) (outcome (done g d t d t) b)
+    -- get and get record, of some bytes and of none
+    reads : {f : Form} {c : Block} {text b : List ℕ} (s k o l : ℕ) → Gets f c b s k o l → Ends (asks (Moves (Get f))) (cioOf c text b) (gotten d t (c .channel) s (fill g f d s (place k o l) b))
+    reads-none : {f : Form} {c : Block} {text b : List ℕ} → On c (Moves (Get f)) → length b ≡ 0 → Ends (asks (Moves (Get f))) (cioOf c text b) (outcome (done g d t d t) b)
+    -- put and put record, of some bytes; a put of none
+    writes : {f : Form} {c : Block} {text b : List ℕ} (s p : ℕ) → Puts f c b s p → Ends (asks (Moves (Put f))) (cioOf c text b) (outcome (added t (c .channel) s f b (putFrom g (sent f b) d s p 0)) b)
+    writes-none : {f : Form} {c : Block} {text b : List ℕ} → On c (Moves (Put f)) → length (sent f b) ≡ 0 → Ends (asks (Moves (Put f))) (cioOf c text b) (outcome (done g d t d t) b)
     -- close of a channel that does not write, of a writing one whose slot is $43, and of one whose slot is not
     frees : {c : Block} {text b : List ℕ} → On c Close → ((s p : ℕ) → stateOf t (c .channel) ≢ Writing s p) → Ends (asks Close) (cioOf c text b) (outcome (done g d t d (withState t (c .channel) Closed)) b)
     closes : {c : Block} {text b : List ℕ} (s p : ℕ) → Closes c s p → is43 d s ≡ true → Ends (asks Close) (cioOf c text b) (outcome (done g d t (writeFlag d s 0x42) (withState t (c .channel) Closed)) b)

@@ -9,6 +9,7 @@ use Rattle.layout.specs.declared.State.{State}
 use Rattle.layout.specs.declared.State.the-variants.{Closed, Reading, Writing}
 use Rattle.layout.specs.declared.Table.{Table}
 use Rattle.rules.specs.declared.Block.{Block}
+use Rattle.rules.specs.declared.Form.{Form}
 use Rattle.rules.specs.declared.Transfer.the-variants.{Get, Put}
 use Rattle.rules.specs.declared.Command.{Command}
 use Rattle.rules.specs.declared.Command.the-variants.{Moves, Close}
@@ -17,8 +18,8 @@ use Rattle.layout.specs.Directory.{count, writeFlag, is43}
 use Rattle.layout.specs.Channels.{stateOf, withState}
 use Rattle.layout.specs.Status.{writeProtected}
 use Rattle.layout.proofs.Check.{check-yes, check-no}
-use Rattle.rules.specs.Get.{getOn}
-use Rattle.rules.specs.Put.{putOn}
+use Rattle.rules.specs.Get.{readOn}
+use Rattle.rules.specs.Put.{sent, putOn}
 use Rattle.rules.specs.Commands.{Effect, refused, done, putAt, openRead, closeState, closeCall}
 use Rattle.rules.specs.Cio.{Outcome, getAt, transfer, command, cio}
 use Rattle.rules.proofs.Acts.{On, Opens, Closes}
@@ -34,14 +35,14 @@ module _ (g : Geometry) (d : Disk) (t : Table) (c : Block) (text b : List ℕ) w
   does-effect : {k : Command} → On c k → cio g d t c text b .effect ≡ command g d t k c text b .effect
   does-effect o = ap (λ (r : Outcome). r .effect) (does o)
 
-  -- a get and a put, on a channel in this state
-  pub does-get : On c (Moves Get) → {st : State} → stateOf t (c .channel) ≡ st → cio g d t c text b ≡ getLeaves d t (c .channel) (getOn g d st b)
+  -- a get and a put of either form, on a channel in this state
+  pub does-get : {f : Form} → On c (Moves (Get f)) → {st : State} → stateOf t (c .channel) ≡ st → cio g d t c text b ≡ getLeaves d t (c .channel) (readOn g f d st b)
   unfolding command transfer getAt
-  does-get o e = does o ∙ ap (λ st. getLeaves d t (c .channel) (getOn g d st b)) e
+  does-get {f = f} o e = does o ∙ ap (λ st. getLeaves d t (c .channel) (readOn g f d st b)) e
 
-  pub does-put : On c (Moves Put) → {st : State} → stateOf t (c .channel) ≡ st → cio g d t c text b .effect ≡ putLeaves t (c .channel) (putOn g d (c .protected) st b)
+  pub does-put : {f : Form} → On c (Moves (Put f)) → {st : State} → stateOf t (c .channel) ≡ st → cio g d t c text b .effect ≡ putLeaves t (c .channel) f b (putOn g d (c .protected) st (sent f b))
   unfolding command transfer putAt
-  does-put o e = does-effect o ∙ ap (λ st. putLeaves t (c .channel) (putOn g d (c .protected) st b)) e
+  does-put {f = f} o e = does-effect o ∙ ap (λ st. putLeaves t (c .channel) f b (putOn g d (c .protected) st (sent f b))) e
 
   -- a close of a channel that writes
   does-close-state : (s p : ℕ) → On c Close → stateOf t (c .channel) ≡ Writing s p → cio g d t c text b .effect ≡ closeState g d t (c .channel) (c .protected) (Writing s p)

@@ -16,6 +16,8 @@ use Rattle.layout.specs.declared.Name.the-variants.{Is, Refused}
 use Rattle.layout.specs.declared.Found.{Found}
 use Rattle.layout.specs.declared.Found.the-variants.{At, Nothing}
 use Rattle.rules.specs.declared.Block.{Block}
+use Rattle.rules.specs.declared.Form.{Form}
+use Rattle.rules.specs.declared.Form.the-variants.{Characters, Record}
 use Rattle.rules.specs.declared.Transfer.{Transfer}
 use Rattle.rules.specs.declared.Transfer.the-variants.{Get, Put}
 use Rattle.rules.specs.declared.FileCommand.{FileCommand}
@@ -31,18 +33,19 @@ use Rattle.layout.specs.Directory.{flag, writeFlag, locked, found, find, is43}
 use Rattle.layout.specs.File.{clean}
 use Rattle.layout.specs.Channels.{stateOf, withState, held}
 use Rattle.layout.specs.Names.{wellFormed, nameAt, readAs, body, ending, comma, wholeEnd, named, readName, oldName, newName, readDevice}
-use Rattle.layout.specs.Status.{success, badChannel, badCommand, channelOpen, writeOnly, channelClosed, writeProtected, notServed, badDevice, badUnit, badName, badTable, notFound, fileLocked, fileHeld, badChain}
+use Rattle.layout.specs.Status.{success, badChannel, badCommand, channelOpen, writeOnly, channelClosed, writeProtected, notServed, badDevice, badUnit, badName, badTable, notFound, fileLocked, fileHeld, badChain, truncated}
 use Rattle.layout.proofs.Check.{check-yes, check-no, by-check, by-name, by-found}
 use Rattle.layout.proofs.Channels.{with-id}
 use Rattle.layout.proofs.Logic.{and-left, and-right}
-use Rattle.layout.proofs.Members.{member-head}
-use Rattle.rules.specs.Get.{readable, gets, GetOutcome, getOn}
-use Rattle.rules.specs.Put.{writable, putFrom, puts, PutOutcome, putKeeps, putOn}
+use Rattle.layout.proofs.Members.{member-head, member-tail}
+use Rattle.rules.specs.Get.{readable, gets, GetOutcome, readOn}
+use Rattle.rules.specs.Put.{sent, reported, writable, putFrom, puts, PutOutcome, putKeeps, putOn}
 use Rattle.rules.specs.Commands.{Effect, refused, couldChange, done, putAt, passing, sought, target, mayChange, mayFree, both, aimed, openRead, openFound, openNew, openTarget, openWrite, openCall, closeState, closeCall, statusCall, renameAt, renameCall, deleteAt, deleteCall, flagAt, lockCall, unlockCall, formatCall, fileCommand, onClosed}
 use Rattle.rules.specs.Cio.{Outcome, outcome, getAt, commandOf, Asks, transfer, command, cio}
 use Rattle.rules.specs.Recovery.{Recovered, recovered, recover}
-use Rattle.rules.specs.Demand1.{readAnswers, writeAnswers, openAnswers, statusAnswers, lockAnswers, formatAnswers, commandAnswers, answers, recoveryAnswers}
+use Rattle.rules.specs.Demand1.{readAnswers, writeAnswers, openAnswers, getAnswers, statusAnswers, lockAnswers, formatAnswers, commandAnswers, answers, recoveryAnswers}
 use Rattle.rules.specs.Lists.{Call, cioOf, recoveryOf, System, recovering, outcomeOf}
+use Rattle.rules.proofs.Sent.{none-reported}
 use Rattle.rules.proofs.Told.{by-passing, may-change, may-free}
 use Rattle.rules.proofs.Acts.{plainly, Kind, asks, recovers, kindOf, On, Told, bytes, GetEnds, get-closed, get-writing, get-broken, get-none, get-some, PutWhy, put-plain, put-barred, put-no-table, put-broken, PutEnds, put-refuses, put-none, put-some, Why, plain, barred, no-table, no-chain, no-read, no-write, Ready, Aimed, Flags, Closes, Ends, refuses, reads, reads-none, writes, writes-none, frees, closes, drops, opens, rewrites, makes, tells, renames, deletes, locks, unlocks, formats, restores}
 
@@ -92,15 +95,15 @@ both-first (Refused k) b x y e = e
 both-first (Is v w) (Refused k) x y e = absurd (let q : _≡_ {A = ℕ} 0 1 = cc in omega arith)
 both-first (Is v w) (Is v' w') x y e = e
 
--- a get and a put on one channel
+-- a get and a put on one channel, of either form
 module _ (g : Geometry) (d : Disk) where
-  pub get-ends : (st : State) (b : List ℕ) → GetEnds g d b st (getOn g d st b)
-  unfolding getOn
-  get-ends Closed b = get-closed
-  get-ends (Writing s p) b = get-writing s p
-  get-ends (Reading s k o l) b =
-      by-check (GetEnds g d b (Reading s k o l)) _ _ _ (λ n. get-none s k o l (eqb-true (length b) 0 n)) λ n.
-      by-check (GetEnds g d b (Reading s k o l)) _ _ _ (λ r. get-broken s k o l (not-true (readable g d s k o) r)) λ r.
+  pub get-ends : (f : Form) (st : State) (b : List ℕ) → GetEnds g d f b st (readOn g f d st b)
+  unfolding readOn
+  get-ends f Closed b = get-closed
+  get-ends f (Writing s p) b = get-writing s p
+  get-ends f (Reading s k o l) b =
+      by-check (GetEnds g d f b (Reading s k o l)) _ _ _ (λ n. get-none s k o l (eqb-true (length b) 0 n)) λ n.
+      by-check (GetEnds g d f b (Reading s k o l)) _ _ _ (λ r. get-broken s k o l (not-true (readable g d s k o) r)) λ r.
       get-some s k o l (eqb-false (length b) 0 n) (not-false (readable g d s k o) r)
 
   pub put-ends : (protected : Bool) (st : State) (b : List ℕ) → PutEnds g d protected b st (putOn g d protected st b)
@@ -301,8 +304,10 @@ pub by-command : (P : Command → Type 0) (n : ℕ) → ((k : Transfer) → P (M
 unfolding commandOf
 by-command P n m c f low other =
     by-check P _ _ _ (λ _. f Open) λ _.
-    by-check P _ _ _ (λ _. m Get) λ _.
-    by-check P _ _ _ (λ _. m Put) λ _.
+    by-check P _ _ _ (λ _. m (Get Record)) λ _.
+    by-check P _ _ _ (λ _. m (Get Characters)) λ _.
+    by-check P _ _ _ (λ _. m (Put Record)) λ _.
+    by-check P _ _ _ (λ _. m (Put Characters)) λ _.
     by-check P _ _ _ (λ _. c) λ _.
     by-check P _ _ _ (λ _. f Status) λ _.
     by-check P _ _ _ (λ _. f Rename) λ _.
@@ -327,8 +332,8 @@ unlisted-plain n = by-command (λ k. plainlyUnlisted k ≡ true) n (λ _. refl) 
 abbrev pub getLeaves : Disk → Table → ℕ → GetOutcome → Outcome
 getLeaves d t i r = outcome (record { status = r .answer .status; count = r .answer .count; disk = d; table = withState t i (r .answer .state); given = []; took = Nothing }) (r .buffer)
 
-abbrev pub putLeaves : Table → ℕ → PutOutcome → Effect
-putLeaves t i r = record { status = r .answer .status; count = r .answer .count; disk = r .disk; table = withState t i (r .answer .state); given = r .given; took = Nothing }
+abbrev pub putLeaves : Table → ℕ → Form → List ℕ → PutOutcome → Effect
+putLeaves t i f b r = record { status = r .answer .status; count = reported f b (r .answer .count); disk = r .disk; table = withState t i (r .answer .state); given = r .given; took = Nothing }
 
 -- each command
 module _ (g : Geometry) (d : Disk) (t : Table) (c : Block) (text b : List ℕ) where
@@ -468,32 +473,37 @@ module _ (g : Geometry) (d : Disk) (t : Table) (c : Block) (text b : List ℕ) w
           by-check (A Close) _ _ _ (λ q. drops s p h (not-true (is43 d s) q)) λ q.
           closes s p h (not-false (is43 d s) q)
 
-  -- 7 get and 11 put, by what the channel's record ends in
-  got : On c (Moves Get) → {st : State} → stateOf t (c .channel) ≡ st → {r : GetOutcome} → GetEnds g d b st r → Ends g d t (asks (Moves Get)) (cioOf c text b) (getLeaves d t (c .channel) r)
-  unfolding gets commandAnswers member
-  got o e get-closed = rw (with-id t (c .channel) Closed e) (refuse-plain (rows o refl) channelClosed refl)
-  got o e (get-writing s p) = rw (with-id t (c .channel) (Writing s p) e) (refuse-plain (rows o refl) writeOnly refl)
-  got o e (get-broken s k i l q) = rw (with-id t (c .channel) (Reading s k i l) e) (rows o refl .refusing badChain (no-read (c .channel) s k i l (o .small) e q) refl)
+  -- 7 get and 11 put, 5 get record and 9 put record, by what the channel's record ends in
+  read-rows : (f : Form) → On c (Moves (Get f)) → T (Moves (Get f)) getAnswers
+  unfolding commandAnswers
+  read-rows Characters o = rows o refl
+  read-rows Record o = record { refusing = λ n y m. rows o refl .refusing n y (member-tail n truncated getAnswers m) }
+
+  got : {f : Form} → On c (Moves (Get f)) → {st : State} → stateOf t (c .channel) ≡ st → {r : GetOutcome} → GetEnds g d f b st r → Ends g d t (asks (Moves (Get f))) (cioOf c text b) (getLeaves d t (c .channel) r)
+  unfolding gets member
+  got {f = f} o e get-closed = rw (with-id t (c .channel) Closed e) (refuse-plain (read-rows f o) channelClosed refl)
+  got {f = f} o e (get-writing s p) = rw (with-id t (c .channel) (Writing s p) e) (refuse-plain (read-rows f o) writeOnly refl)
+  got {f = f} o e (get-broken s k i l q) = rw (with-id t (c .channel) (Reading s k i l) e) (read-rows f o .refusing badChain (no-read (c .channel) s k i l (o .small) e q) refl)
   got o e (get-none s k i l n) = rw (with-id t (c .channel) (Reading s k i l) e) (reads-none o n)
   got o e (get-some s k i l n p) = reads s k i l (record { on = o; state = e; wanted = n; passes = p })
 
-  put-why : On c (Moves Put) → {st : State} → stateOf t (c .channel) ≡ st → {n : ℕ} → PutWhy g d (c .protected) st n → Why g d t (c .protected) (asks (Moves Put)) n
+  put-why : {f : Form} → On c (Moves (Put f)) → {st : State} → stateOf t (c .channel) ≡ st → {n : ℕ} → PutWhy g d (c .protected) st n → Why g d t (c .protected) (asks (Moves (Put f))) n
   put-why o e (put-plain n p) = plain n p
   put-why o e (put-barred q) = barred q
   put-why o e (put-no-table v) = no-table v
   put-why o e (put-broken s p w) = no-write (c .channel) s p (o .small) e w
 
-  put : On c (Moves Put) → {st : State} → stateOf t (c .channel) ≡ st → {r : PutOutcome} → PutEnds g d (c .protected) b st r → A (Moves Put) (putLeaves t (c .channel) r)
+  put : {f : Form} → On c (Moves (Put f)) → {st : State} → stateOf t (c .channel) ≡ st → {r : PutOutcome} → PutEnds g d (c .protected) (sent f b) st r → A (Moves (Put f)) (putLeaves t (c .channel) f b r)
   unfolding puts commandAnswers member
-  put o e (put-refuses st n w m) = rw (with-id t (c .channel) st e) (rows o refl .refusing n (put-why o e w) m)
-  put o e (put-none s p n) = rw (with-id t (c .channel) (Writing s p) e) (writes-none o n)
+  put {f = f} o e (put-refuses st n w m) = rw (with-id t (c .channel) st e, none-reported f b) (rows o refl .refusing n (put-why o e w) m)
+  put {f = f} o e (put-none s p n) = rw (with-id t (c .channel) (Writing s p) e, none-reported f b) (writes-none o n)
   put o e (put-some s p u n v w) = writes s p (record { on = o; state = e; permitted = u; waiting = n; table = v; passes = w })
 
   -- every command on a channel below 8
   pub command-ends : (k : Command) → On c k → Ends g d t (asks k) (cioOf c text b) (command g d t k c text b)
   unfolding command transfer getAt putAt commandAnswers
-  command-ends (Moves Get) o = got o refl (get-ends g d (stateOf t (c .channel)) b)
-  command-ends (Moves Put) o = put o refl (put-ends g d (c .protected) (stateOf t (c .channel)) b)
+  command-ends (Moves (Get f)) o = got o refl (get-ends g d f (stateOf t (c .channel)) b)
+  command-ends (Moves (Put f)) o = put o refl (put-ends g d (c .protected) (stateOf t (c .channel)) (sent f b))
   command-ends Close o = close-ends o
   command-ends (Files k) o = closed-ends k o
   command-ends (Unlisted n) o = rows o refl .refusing n (plain n (subst (λ k. plainlyUnlisted k ≡ true) (o .command) (unlisted-plain (c .command)))) (member-head n [])

@@ -13,6 +13,8 @@ use Rattle.layout.specs.declared.Channel.{Channel}
 use Rattle.layout.specs.declared.density.Medium.{Medium}
 use Rattle.layout.specs.declared.Served.the-variants.{As, Not}
 use Rattle.rules.specs.declared.Block.{Block}
+use Rattle.rules.specs.declared.Form.{Form}
+use Rattle.rules.specs.declared.Form.the-variants.{Characters, Record}
 use Rattle.rules.specs.declared.Transfer.the-variants.{Get, Put}
 use Rattle.rules.specs.declared.FileCommand.the-variants.{Open, Status, Rename, Delete, Lock, Unlock, Format}
 use Rattle.rules.specs.declared.Command.{Command}
@@ -21,7 +23,7 @@ use Rattle.layout.specs.Basics.{check, member}
 use Rattle.layout.specs.Image.{Disk, atrSingle, atrDouble, geometryOf, view}
 use Rattle.layout.specs.Header.{agrees, servedAs}
 use Rattle.layout.specs.Channels.{stateOf, withState}
-use Rattle.layout.specs.Status.{success, badImage, badHeader, badChannel, notServed, channelOpen, channelClosed, writeOnly, readOnly, writeProtected, badDevice, badUnit, badName, badTable, notFound, fileLocked, fileHeld, badChain, nameTaken, noSlot, diskFull, endOfFile, lostChain, noDevice, badRequest, badLength}
+use Rattle.layout.specs.Status.{success, badImage, badHeader, badChannel, notServed, channelOpen, channelClosed, writeOnly, readOnly, writeProtected, badDevice, badUnit, badName, badTable, notFound, fileLocked, fileHeld, badChain, nameTaken, noSlot, diskFull, endOfFile, truncated, lostChain, noDevice, badRequest, badLength}
 use Rattle.rules.specs.Cio.{ImageOutcome, commandOf, Asks, cioCall}
 use Rattle.rules.specs.Recovery.{recoverCall}
 use Rattle.rules.specs.Sectors.{sectorCall}
@@ -48,7 +50,11 @@ openAnswers direction =
 abbrev pub getAnswers : List ℕ
 getAnswers = success ∷ channelClosed ∷ writeOnly ∷ endOfFile ∷ badChain ∷ []
 
--- those of a put
+-- those of a get record
+abbrev pub getRecordAnswers : List ℕ
+getRecordAnswers = truncated ∷ getAnswers
+
+-- those of a put, and of a put record
 abbrev pub putAnswers : List ℕ
 putAnswers = success ∷ channelClosed ∷ readOnly ∷ writeProtected ∷ badTable ∷ badChain ∷ diskFull ∷ []
 
@@ -78,8 +84,9 @@ formatAnswers = success ∷ channelOpen ∷ writeProtected ∷ badDevice ∷ bad
 
 -- those of a command, by the direction of its block
 unfoldable pub commandAnswers : ℕ → Command → List ℕ
-commandAnswers direction (Moves Get) = getAnswers
-commandAnswers direction (Moves Put) = putAnswers
+commandAnswers direction (Moves (Get Characters)) = getAnswers
+commandAnswers direction (Moves (Get Record)) = getRecordAnswers
+commandAnswers direction (Moves (Put f)) = putAnswers
 commandAnswers direction Close = closeAnswers
 commandAnswers direction (Files Open) = openAnswers direction
 commandAnswers direction (Files Status) = statusAnswers
@@ -132,10 +139,11 @@ pub record Reasons (l : List ℕ) : Type 0 where
   pub headers : (servedAs l ≡ Not badHeader) ↔ ((m : Medium) × ((m ≡ atrSingle) ⊎ (m ≡ atrDouble)) × (length l ≡ geometryOf m .total) × (agrees m l ≡ false))
   pub only : (n : ℕ) → servedAs l ≡ Not n → (n ≡ badImage) ⊎ (n ≡ badHeader)
 
--- the partial transfers: get with 136 (file ended) or 164, put with 162; close frees its channel even with 164
+-- the partial transfers: get with 136 (file ended) or 164, get record with 137 too, put and put record with 162; close frees its channel even with 164
 unfoldable pub partials : Command → List ℕ
-partials (Moves Get) = endOfFile ∷ badChain ∷ []
-partials (Moves Put) = diskFull ∷ []
+partials (Moves (Get Characters)) = endOfFile ∷ badChain ∷ []
+partials (Moves (Get Record)) = truncated ∷ endOfFile ∷ badChain ∷ []
+partials (Moves (Put f)) = diskFull ∷ []
 partials Close = badChain ∷ []
 partials (Files k) = []
 partials (Unlisted status) = []
@@ -158,8 +166,8 @@ pub record Refusals : Type 0 where
   pub recoveries : (l : List ℕ) (protected : Bool) (s : ℕ) → let r = recoverCall l protected s in r .reply .status ≢ success → (r .reply .count ≡ 0) × (r .image ≡ l)
   pub sectors : (l : List ℕ) (protected : Bool) (device unit command k : ℕ) (b : List ℕ) → let o = sectorCall l protected device unit command k b in o .reply .status ≢ success → (o .reply .count ≡ 0) × (o .image ≡ l) × (o .buffer ≡ b)
   -- a thin call on one lent record
-  pub thinGets : (l : List ℕ) (c : Channel) (b : List ℕ) → let o = thinGet l c b in Refusal (Moves Get) (o .answer .status) → (o .answer .count ≡ 0) × (o .answer .state ≡ c .state) × (o .buffer ≡ b)
-  pub thinPuts : (l : List ℕ) (protected : Bool) (c : Channel) (b : List ℕ) → let o = thinPut l protected c b in Refusal (Moves Put) (o .answer .status) → (o .answer .count ≡ 0) × (o .answer .state ≡ c .state) × (o .image ≡ l)
+  pub thinGets : (l : List ℕ) (c : Channel) (b : List ℕ) → let o = thinGet l c b in Refusal (Moves (Get Characters)) (o .answer .status) → (o .answer .count ≡ 0) × (o .answer .state ≡ c .state) × (o .buffer ≡ b)
+  pub thinPuts : (l : List ℕ) (protected : Bool) (c : Channel) (b : List ℕ) → let o = thinPut l protected c b in Refusal (Moves (Put Characters)) (o .answer .status) → (o .answer .count ≡ 0) × (o .answer .state ≡ c .state) × (o .image ≡ l)
   -- the header's writer
   pub headers : (l : List ℕ) (protected : Bool) → let o = headerCall l protected in o .reply .status ≢ success → (o .reply .count ≡ 0) × (o .image ≡ l)
 
@@ -182,12 +190,14 @@ OnlyEndOn st l after given = (m : Medium) → servedAs l ≡ As m → let g = ge
 
 -- what a partial transfer leaves, as every get, put and close does
 pub record Transfers : Type 0 where
-  -- a get leaves the image, the rest of the buffer and the other channels
-  pub gets : (l : List ℕ) (t : Table) (c : Block) (text b : List ℕ) → Asks c (Moves Get)
+  -- a get or a get record leaves the image, the rest of the buffer and the other channels
+  pub gets : (l : List ℕ) (t : Table) (c : Block) (text b : List ℕ) (f : Form) → Asks c (Moves (Get f))
       → let o = cioCall l t c text b in (o .image ≡ l) × Moved (o .answer .count) (o .buffer) b × OnlyChannel t (c .channel) (o .answer .table)
   pub thinGets : (l : List ℕ) (c : Channel) (b : List ℕ) → let o = thinGet l c b in Moved (o .answer .count) (o .buffer) b
-  -- a put leaves the buffer, the other channels and all of the disk but the file's end
-  pub puts : (l : List ℕ) (t : Table) (c : Block) (text b : List ℕ) → Asks c (Moves Put)
+  -- with 137 the buffer is full
+  pub cut : (l : List ℕ) (t : Table) (c : Block) (text b : List ℕ) → Asks c (Moves (Get Record)) → let o = cioCall l t c text b in o .answer .status ≡ truncated → o .answer .count ≡ length b
+  -- a put or a put record leaves the buffer, the other channels and all of the disk but the file's end
+  pub puts : (l : List ℕ) (t : Table) (c : Block) (text b : List ℕ) (f : Form) → Asks c (Moves (Put f))
       → let o = cioCall l t c text b in (o .answer .count ≤ length b) × (o .buffer ≡ b) × OnlyChannel t (c .channel) (o .answer .table) × OnlyEndOn (stateOf t (c .channel)) l (o .image) (o .given)
   pub thinPuts : (l : List ℕ) (protected : Bool) (c : Channel) (b : List ℕ) → let o = thinPut l protected c b in (o .answer .count ≤ length b) × OnlyEndOn (c .state) l (o .image) (o .given)
   -- a close with 164 frees its channel, and changes nothing else

@@ -1,5 +1,5 @@
 -- Demand 2: on a sound disk, what was written and closed reads back the same, whatever other calls stand between.
-use mathlib.Core.Bool.{Bool, true, false, _&&_}
+use mathlib.Core.Bool.{Bool, true, false, not, _&&_, _||_}
 use mathlib.Core.List.{List, [], _∷_, _++_}
 use mathlib.Core.Logic.{_≢_, _⊎_}
 use mathlib.Core.Path.{_≡_}
@@ -13,19 +13,22 @@ use Rattle.layout.specs.declared.Name.the-variants.{Is}
 use Rattle.layout.specs.declared.Found.the-variants.{At}
 use Rattle.layout.specs.declared.density.Medium.{Medium}
 use Rattle.rules.specs.declared.Block.{Block}
+use Rattle.rules.specs.declared.Form.{Form}
+use Rattle.rules.specs.declared.Form.the-variants.{Characters, Record}
 use Rattle.rules.specs.declared.Transfer.the-variants.{Get, Put}
 use Rattle.rules.specs.declared.FileCommand.the-variants.{Open, Rename, Delete, Format}
 use Rattle.rules.specs.declared.Command.{Command}
-use Rattle.rules.specs.declared.Command.the-variants.{Moves, Close, Files}
-use Rattle.layout.specs.Basics.{if}
+use Rattle.rules.specs.declared.Command.the-variants.{Moves, Close, Files, Unlisted}
+use Rattle.layout.specs.Basics.{if, member, through, behind}
 use Rattle.layout.specs.Image.{Disk, Geometry, geometryOf}
 use Rattle.layout.specs.Directory.{flag, count, find}
-use Rattle.layout.specs.File.{file}
+use Rattle.layout.specs.File.{endOfLine, file}
 use Rattle.layout.specs.Channels.{stateOf, openAt}
 use Rattle.layout.specs.Names.{nameByte, readName, oldName}
-use Rattle.layout.specs.Status.{success, writeProtected, diskFull, endOfFile}
+use Rattle.layout.specs.Status.{success, writeProtected, diskFull, endOfFile, truncated}
+use Rattle.rules.specs.Put.{sent}
 use Rattle.rules.specs.Commands.{Effect}
-use Rattle.rules.specs.Cio.{Outcome, isGet, isPut, commandOf, Asks}
+use Rattle.rules.specs.Cio.{Outcome, isGet, commandOf, Asks}
 use Rattle.rules.specs.Sound.{Stands, SameName, Sound}
 use Rattle.rules.specs.Lists.{Call, cioOf, recoveryOf, protectedIn, System, Event, Machine, run, events, disks, ImageTable, images, SoundImage}
 
@@ -39,7 +42,7 @@ abbrev pub StaysOpen : ℕ → List Event → Type 0
 StaysOpen i [] = Unit {0}
 StaysOpen i (e ∷ es) = (On i Close (e .call) → e .outcome .effect .status ≡ writeProtected) × StaysOpen i es
 
--- what a put on a channel that writes answers on a sound disk: with the notch open 1 or 162, with it closed 144
+-- what a put or a put record on a channel that writes answers on a sound disk: with the notch open 1 or 162, with it closed 144
 abbrev pub PutAnswers : Bool → ℕ → Type 0
 PutAnswers false n = (n ≡ success) ⊎ (n ≡ diskFull)
 PutAnswers true n = n ≡ writeProtected
@@ -60,12 +63,59 @@ ReadsFrom t i s = (k : ℕ) × (o : ℕ) × (l : ℕ) × (stateOf t i ≡ Readin
 abbrev pub AtStart : System → ℕ → ℕ → Type 0
 AtStart y i s = stateOf (y .table) i ≡ Reading s 0 0 (count (y .disk) s)
 
--- the bytes that a call with this outcome put on channel i, as many as it reports, also with 162; none where it is no put on this channel
+-- the bytes of b that a command with this effect added to a file: a put as many as it reports, also with 162; a put record those and its own $9B, where it answered 1 and b has none
+abbrev pub addedBy : Command → List ℕ → Effect → List ℕ
+addedBy (Moves (Put Characters)) b e = take (e .count) b
+addedBy (Moves (Put Record)) b e = take (e .count) b ++ if (eqb (e .status) success && not (member endOfLine b)) (endOfLine ∷ []) []
+addedBy (Moves (Get f)) b e = []
+addedBy Close b e = []
+addedBy (Files k) b e = []
+addedBy (Unlisted status) b e = []
+
+-- the bytes that a call with this outcome put on channel i; none where it is no put and no put record on this channel
 unfoldable pub putBy : ℕ → Call → Outcome → List ℕ
-putBy i (cioOf c text b) o = if (eqb (c .channel) i && isPut (commandOf (c .command))) (take (o .effect .count) b) []
+putBy i (cioOf c text b) o = if (eqb (c .channel) i) (addedBy (commandOf (c .command)) b (o .effect)) []
 putBy i (recoveryOf protected s) o = []
 
--- the bytes that it got from channel i, as many as it reports, out of the buffer after it
+-- what a get or a get record with a buffer of n bytes hands out of r at most: a get record goes through the first $9B
+abbrev pub offered : Form → List ℕ → List ℕ
+offered Characters r = r
+offered Record r = through endOfLine r
+
+-- what it leaves of r: a get all but n bytes; a get record what is behind the line's $9B, whether or not the line fitted
+abbrev pub leftOf : Form → ℕ → List ℕ → List ℕ
+leftOf Characters n r = drop n r
+leftOf Record n r = if (eqb n 0) r (behind endOfLine r)
+
+-- what it answers: a get 1 where the buffer was filled, otherwise 136; a get record 1 where the $9B came, 137 where the buffer filled first, otherwise 136, and 1 for an empty buffer
+abbrev pub answered : Form → ℕ → List ℕ → ℕ
+answered Characters n r = if (leb n (length r)) success endOfFile
+answered Record n r = if (eqb n 0 || member endOfLine (take n r)) success (if (leb n (length r)) truncated endOfFile)
+
+-- what a command with a buffer of n bytes leaves of r, on the channel that has r yet to hand out
+abbrev pub leftBehind : Command → ℕ → List ℕ → List ℕ
+leftBehind (Moves (Get f)) n r = leftOf f n r
+leftBehind (Moves (Put f)) n r = r
+leftBehind Close n r = r
+leftBehind (Files k) n r = r
+leftBehind (Unlisted status) n r = r
+
+-- what a call leaves of the bytes r that channel i has yet to hand out
+unfoldable pub leftBy : ℕ → Call → List ℕ → List ℕ
+leftBy i (cioOf c text b) r = if (eqb (c .channel) i) (leftBehind (commandOf (c .command)) (length b) r) r
+leftBy i (recoveryOf protected s) r = r
+
+-- what all calls of a list leave of them
+unfoldable pub leftAfter : ℕ → List Call → List ℕ → List ℕ
+leftAfter i [] r = r
+leftAfter i (c ∷ cs) r = leftAfter i cs (leftBy i c r)
+
+-- no get record of the list from channel i answered 137, so that none dropped a byte
+abbrev pub Uncut : ℕ → List Event → Type 0
+Uncut i [] = Unit {0}
+Uncut i (e ∷ es) = (On i (Moves (Get Record)) (e .call) → e .outcome .effect .status ≢ truncated) × Uncut i es
+
+-- the bytes that a call got from channel i, as many as it reports, out of the buffer after it
 unfoldable pub gotBy : ℕ → Call → Outcome → List ℕ
 gotBy i (cioOf c text b) o = if (eqb (c .channel) i && isGet (commandOf (c .command))) (take (o .effect .count) (o .buffer)) []
 gotBy i (recoveryOf protected s) o = []
@@ -80,11 +130,16 @@ unfoldable pub gotBytes : ℕ → List Event → List ℕ
 gotBytes i [] = []
 gotBytes i (e ∷ es) = gotBy i (e .call) (e .outcome) ++ gotBytes i es
 
--- a CIO call that found y and had the effect e leaves the file of slot s: it is no open for output and no delete of that file that answers 1, no put on a channel that writes it but one that reports no bytes, and no format that answers 1
+-- a put or a put record with this effect added no byte: a put that reports none; a put record that reports none and does not answer 1
+abbrev pub AddsNone : Form → Effect → Type 0
+AddsNone Characters e = e .count ≡ 0
+AddsNone Record e = (e .count ≡ 0) × (e .status ≢ success)
+
+-- a CIO call that found y and had the effect e leaves the file of slot s: it is no open for output and no delete of that file that answers 1, no put and no put record on a channel that writes it but one that added no byte, and no format that answers 1
 pub record LeavesFile (s : ℕ) (c : Block) (text : List ℕ) (y : System) (e : Effect) : Type 0 where
   pub opens : Asks c (Files Open) → c .direction ≡ 8 → Finds (y .disk) (readName text) s → e .status ≢ success
   pub deletes : Asks c (Files Delete) → Finds (y .disk) (readName text) s → e .status ≢ success
-  pub puts : Asks c (Moves Put) → WritesTo (y .table) (c .channel) s → e .count ≡ 0
+  pub puts : (f : Form) → Asks c (Moves (Put f)) → WritesTo (y .table) (c .channel) s → AddsNone f e
   pub formats : Asks c (Files Format) → e .status ≢ success
 
 -- a call leaves the file of slot s; a recovery leaves every file
@@ -107,11 +162,11 @@ abbrev pub LeavesNameAll : ℕ → List Event → Type 0
 LeavesNameAll s [] = Unit {0}
 LeavesNameAll s (e ∷ es) = LeavesName s (e .call) (e .found) (e .outcome .effect) × LeavesNameAll s es
 
--- a get hands out what is left of a file: as much as its buffer b takes or as there is, behind which the buffer is as it was; 1 where it was filled, otherwise 136
-pub record HandsOut (left b : List ℕ) (o : Outcome) : Type 0 where
-  pub status : o .effect .status ≡ if (leb (length b) (length left)) success endOfFile
-  pub count : o .effect .count ≡ min (length b) (length left)
-  pub buffer : o .buffer ≡ take (length b) left ++ drop (length left) b
+-- a get or a get record hands out what is left of a file: as much as its buffer b takes or as there is, through the line's $9B for a get record, behind which the buffer is as it was
+pub record HandsOut (f : Form) (left b : List ℕ) (o : Outcome) : Type 0 where
+  pub status : o .effect .status ≡ answered f (length b) left
+  pub count : o .effect .count ≡ min (length b) (length (offered f left))
+  pub buffer : o .buffer ≡ take (length b) (offered f left) ++ drop (length (offered f left)) b
 
 module _ (g : Geometry) where
   -- the file of slot s on disk d stands on disk e, in the same slot, with the same bytes
@@ -135,28 +190,29 @@ module _ (g : Geometry) where
     pub stands : Stands (z .disk) s
     pub named : SameName (z .disk) s (y .disk) s
     pub bytes : file g (z .disk) s ≡ file g (y .disk) s ++ put
-    -- a put on the channel then answers 1 or 162, or 144; where it answers 1 it puts all that it was lent
-    pub next : (c : Block) (text b : List ℕ) → On i (Moves Put) (cioOf c text b) → PutAnswers (c .protected) (does (cioOf c text b) .effect .status)
-    pub whole : (c : Block) (text b : List ℕ) → On i (Moves Put) (cioOf c text b) → let o = does (cioOf c text b) in o .effect .status ≡ success → putBy i (cioOf c text b) o ≡ b
+    -- a put or a put record on the channel then answers 1 or 162, or 144; where it answers 1 it puts all that it was lent, or the line
+    pub next : (f : Form) (c : Block) (text b : List ℕ) → On i (Moves (Put f)) (cioOf c text b) → PutAnswers (c .protected) (does (cioOf c text b) .effect .status)
+    pub whole : (f : Form) (c : Block) (text b : List ℕ) → On i (Moves (Put f)) (cioOf c text b) → let o = does (cioOf c text b) in o .effect .status ≡ success → putBy i (cioOf c text b) o ≡ sent f b
     -- a close of the channel with the notch closed answers 144
     pub stays : (c : Call) → On i Close c → protectedIn c ≡ true → does c .effect .status ≡ writeProtected
     -- with the notch open it answers 1 and leaves file and name, and the file is no longer open for output
     pub closes : (c : Call) → On i Close c → protectedIn c ≡ false → let e = does c .effect in (e .status ≡ success) × FileKept (z .disk) (e .disk) s × SameName (e .disk) s (y .disk) s × (flag (e .disk) s ≡ 0x42)
 
-  -- channel i of y was before the first byte of slot s, whose file has these bytes; a list of calls that did not close it got these from it and left z
-  pub record Delivered (bytes : List ℕ) (y z : System) (does : Call → Outcome) (i s : ℕ) (got : List ℕ) : Type 0 where
+  -- channel i of y was before the first byte of slot s, whose file has these bytes; a list of calls that did not close it got these from it, left these, and left z; none of it was cut off where `uncut` holds
+  pub record Delivered (bytes : List ℕ) (y z : System) (does : Call → Outcome) (i s : ℕ) (got left : List ℕ) (uncut : Type 0) : Type 0 where
     -- the channel still reads it
     pub reads : ReadsFrom (z .table) i s
     -- file and name are what they were
     pub kept : FileKept (y .disk) (z .disk) s
     pub named : SameName (z .disk) s (y .disk) s
-    -- what was got is the beginning of the file, and this is left
-    pub left : List ℕ
-    pub begins : bytes ≡ got ++ left
-    -- a get from the channel then hands out of that
-    pub next : (c : Block) (text b : List ℕ) → On i (Moves Get) (cioOf c text b) → HandsOut left b (does (cioOf c text b))
-    -- and where it answers 136 all of the file was got
-    pub ended : (c : Block) (text b : List ℕ) → On i (Moves Get) (cioOf c text b) → let o = does (cioOf c text b) in o .effect .status ≡ endOfFile → got ++ gotBy i (cioOf c text b) o ≡ bytes
+    -- what is left is the end of the file, and where nothing was cut off what was got is its beginning
+    pub passed : List ℕ
+    pub ends : bytes ≡ passed ++ left
+    pub begins : uncut → passed ≡ got
+    -- a get or a get record from the channel then hands out of what is left
+    pub next : (f : Form) (c : Block) (text b : List ℕ) → On i (Moves (Get f)) (cioOf c text b) → HandsOut f left b (does (cioOf c text b))
+    -- and where it answers 136 that is all of it
+    pub ended : (f : Form) (c : Block) (text b : List ℕ) → On i (Moves (Get f)) (cioOf c text b) → let o = does (cioOf c text b) in o .effect .status ≡ endOfFile → gotBy i (cioOf c text b) o ≡ left
 
   module _ {X : Type 0} (m : Machine X) where
     -- the two over a list of calls made from x on
@@ -164,7 +220,7 @@ module _ (g : Geometry) where
     StoredOver x i s cs = let z = run m cs x in Stored (m .system x) (m .system z) (λ c. m .outcome c z) i s (putBytes i (events m cs x))
 
     abbrev pub DeliveredOver : List ℕ → X → ℕ → ℕ → List Call → Type 0
-    DeliveredOver bytes x i s cs = let z = run m cs x in Delivered bytes (m .system x) (m .system z) (λ c. m .outcome c z) i s (gotBytes i (events m cs x))
+    DeliveredOver bytes x i s cs = let z = run m cs x in Delivered bytes (m .system x) (m .system z) (λ c. m .outcome c z) i s (gotBytes i (events m cs x)) (leftAfter i cs bytes) (Uncut i (events m cs x))
 
     -- a file that was opened for output under the name in text, written and closed; these bytes were put. A list of calls that leave the file left z; it left its name too where `same` holds
     pub record Returns (text put : List ℕ) (s : ℕ) (same : Type 0) (z : X) : Type 0 where

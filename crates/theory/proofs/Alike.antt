@@ -9,7 +9,7 @@ use Rattle.layout.specs.Channels.{openAt}
 use Rattle.layout.specs.Names.{readName}
 use Rattle.rules.specs.Cio.{Outcome}
 use Rattle.rules.specs.Lists.{Call, cioOf, recoveryOf, System, Event, Machine, run, events}
-use Rattle.rules.specs.Demand2.{Finds, StaysOpen, WritesTo, AtStart, LeavesAll, LeavesNameAll, OpenedOutput, Stored, Delivered, putBytes, gotBytes, DeliveredOver, Returns, Demand2}
+use Rattle.rules.specs.Demand2.{Finds, StaysOpen, WritesTo, AtStart, LeavesAll, LeavesNameAll, OpenedOutput, Stored, Delivered, putBytes, gotBytes, leftAfter, Uncut, DeliveredOver, Returns, Demand2}
 use Rattle.rules.specs.Demand3.{SparesAll, givenBy, Recovers, Demand3}
 use Rattle.rules.specs.Sound.{Stands}
 
@@ -55,7 +55,7 @@ module _ {X Y : Type 0} (m : Machine X) (n : Machine Y) where
 
   module _ (g : Geometry) where
     delivered-alike : (x : X) (y : Y) → Alike x y → (bytes : List ℕ) (i s : ℕ) (cs : List Call) → DeliveredOver g n bytes y i s cs → DeliveredOver g m bytes x i s cs
-    delivered-alike x y h bytes i s cs = over-alike (λ a z does es. Delivered g bytes a z does i s (gotBytes i es)) cs x y h
+    delivered-alike x y h bytes i s cs = over-alike (λ a z does es. Delivered g bytes a z does i s (gotBytes i es) (leftAfter i cs bytes) (Uncut i es)) cs x y h
 
     returns-alike : (x : X) (y : Y) → Alike x y → (text put : List ℕ) (s : ℕ) (same : Type 0) → Returns g n text put s same y → Returns g m text put s same x
     returns-alike x y h text put s same r =

@@ -13,6 +13,7 @@ use Rattle.layout.specs.declared.Found.the-variants.{At}
 use Rattle.layout.specs.declared.Name.{Name}
 use Rattle.layout.specs.declared.Table.{Table}
 use Rattle.rules.specs.declared.Block.{Block}
+use Rattle.rules.specs.declared.Form.{Form}
 use Rattle.rules.specs.declared.Transfer.the-variants.{Get, Put}
 use Rattle.rules.specs.declared.FileCommand.the-variants.{Open, Rename, Delete, Format}
 use Rattle.rules.specs.declared.Command.the-variants.{Moves, Close, Files}
@@ -33,11 +34,11 @@ use Rattle.theory.proofs.Stays.{Both}
 use Rattle.theory.proofs.SoundRestore.{held-stands}
 use Rattle.theory.proofs.Keeps.{call-keeps}
 
--- the call, which answered this, does not close channel i: a close of it answered 144; and it is no get from it while it reads and no put on it while it writes
+-- the call, which answered this, does not close channel i: a close of it answered 144; and it is no get and no get record from it while it reads, and no put and no put record on it while it writes
 pub record Quiet (i : ℕ) (c : Block) (t : Table) (status : ℕ) : Type 0 where
   pub closes : Asks c Close → c .channel ≡ i → status ≡ writeProtected
-  pub gets : Asks c (Moves Get) → c .channel ≡ i → (s k o l : ℕ) → stateOf t i ≢ Reading s k o l
-  pub puts : Asks c (Moves Put) → c .channel ≡ i → (s p : ℕ) → stateOf t i ≢ Writing s p
+  pub gets : (f : Form) → Asks c (Moves (Get f)) → c .channel ≡ i → (s k o l : ℕ) → stateOf t i ≢ Reading s k o l
+  pub puts : (f : Form) → Asks c (Moves (Put f)) → c .channel ≡ i → (s p : ℕ) → stateOf t i ≢ Writing s p
 
 -- a recovery is quiet on every channel
 abbrev pub QuietCall : ℕ → Call → Table → ℕ → Type 0
@@ -56,9 +57,9 @@ module _ (g : Geometry) (d : Disk) (t : Table) (i : ℕ) (v : openAt t i ≡ tru
 
   ends-state : {k : Kind} {c : Call} {o : Outcome} → Ends g d t k c o → QuietCall i c t (o .effect .status) → stateOf (o .effect .table) i ≡ stateOf t i
   ends-state (refuses n w m) q = refl
-  ends-state (reads s k o l h) q = other _ (λ e. q .gets (h .on .command) e s k o l (ap (stateOf t) (sym e) ∙ h .state))
+  ends-state (reads s k o l h) q = other _ (λ e. q .gets _ (h .on .command) e s k o l (ap (stateOf t) (sym e) ∙ h .state))
   ends-state (reads-none o e) q = refl
-  ends-state (writes s p h) q = other _ (λ e. q .puts (h .on .command) e s p (ap (stateOf t) (sym e) ∙ h .state))
+  ends-state (writes s p h) q = other _ (λ e. q .puts _ (h .on .command) e s p (ap (stateOf t) (sym e) ∙ h .state))
   ends-state (writes-none o e) q = refl
   ends-state (frees o h) q = other _ (λ e. let n = q .closes (o .command) e in omega arith)
   ends-state (closes s p h e) q = other _ (λ e. let n = q .closes (h .on .command) e in omega arith)
@@ -153,7 +154,7 @@ module _ (g : Geometry) (roomy : 0 < g .room) (y : System) (a : Sound g (y .disk
       let (p, n) = call-keeps g roomy (cioOf c text b) y a x (held-stands g d t a x i z h) (record {
         opens = λ m n k. no-open g d t a i z x h (ends-as g d t c text b _ m) n k;
         deletes = λ m k. no-delete g d t a i z x h (ends-as g d t c text b _ m) k;
-        puts = λ m (p, k). let r = put-held g d t a i z x h (c .channel) p k in absurd (q .puts m r x p (ap (stateOf t) (sym r) ∙ k));
+        puts = λ f m (p, k). let r = put-held g d t a i z x h (c .channel) p k in absurd (q .puts f m r x p (ap (stateOf t) (sym r) ∙ k));
         formats = λ m. no-format g d t a i z x h (ends-as g d t c text b _ m);
       }) in
       (p, n (λ m k. no-rename g d t a i z x h (ends-as g d t c text b _ m) k))

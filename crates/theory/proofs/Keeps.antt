@@ -11,19 +11,21 @@ use Rattle.layout.specs.declared.Found.the-variants.{At}
 use Rattle.layout.specs.declared.Name.{Name}
 use Rattle.layout.specs.declared.Table.{Table}
 use Rattle.rules.specs.declared.Block.{Block}
+use Rattle.rules.specs.declared.Form.{Form}
+use Rattle.rules.specs.declared.Form.the-variants.{Characters, Record}
 use Rattle.layout.specs.Image.{Disk, Geometry}
 use Rattle.layout.specs.Volume.{bit, isSet, bitOn, bitOff}
 use Rattle.layout.specs.Directory.{flag, writeFlag, writeName, standingFlag}
 use Rattle.layout.specs.File.{chain, delete, restore}
 use Rattle.layout.specs.Channels.{held}
 use Rattle.layout.specs.Names.{oldName}
-use Rattle.rules.specs.Put.{putFrom, puts}
+use Rattle.rules.specs.Put.{Adds, sent, putFrom, puts}
 use Rattle.rules.specs.Commands.{Effect}
 use Rattle.rules.specs.Cio.{Outcome}
 use Rattle.rules.specs.Lists.{Call, System, after, perform, run, disks, events}
 use Rattle.rules.specs.Sound.{Stands, soundFlag, Sound}
-use Rattle.rules.specs.Demand2.{WritesTo, Finds, Leaves, LeavesName, LeavesAll, LeavesNameAll, FileKept}
-use Rattle.rules.proofs.Acts.{Kind, bytes, Aimed, Renames, Puts, Ends, refuses, reads, reads-none, writes, writes-none, frees, closes, drops, opens, rewrites, makes, tells, renames, deletes, locks, unlocks, formats, restores}
+use Rattle.rules.specs.Demand2.{WritesTo, Finds, AddsNone, Leaves, LeavesName, LeavesAll, LeavesNameAll, FileKept}
+use Rattle.rules.proofs.Acts.{Kind, bytes, added, Aimed, Renames, Puts, Ends, refuses, reads, reads-none, writes, writes-none, frees, closes, drops, opens, rewrites, makes, tells, renames, deletes, locks, unlocks, formats, restores}
 use Rattle.rules.proofs.Ends.{ends}
 use Rattle.theory.proofs.Names.{new-legal}
 use Rattle.theory.proofs.Standing.{stands-slot, stands-flag}
@@ -35,7 +37,9 @@ use Rattle.theory.proofs.SoundDir.{change-delete, change-flag}
 use Rattle.theory.proofs.SoundRestore.{change-restore, fallen}
 use Rattle.theory.proofs.SoundOpen.{change-over, change-new}
 use Rattle.theory.proofs.Writer.{writer}
-use Rattle.theory.proofs.SoundPut.{put-adds}
+use Rattle.theory.proofs.SoundPut.{Grown, put-adds}
+use Rattle.theory.proofs.PutWalk.{Walks, walk-short}
+use Rattle.theory.proofs.Sending.{sent-length}
 use Rattle.theory.proofs.Adding.{adds-leave}
 use Rattle.theory.proofs.SoundCommands.{Plain, plain-sound, on-plain, off-plain, plain-here, change-rename}
 use Rattle.theory.proofs.SoundCalls.{call-sound}
@@ -95,13 +99,32 @@ module _ (g : Geometry) (d : Disk) (t : Table) (a : Sound g d t) (x : ℕ) (v : 
       go (no n) = let r = beside d' s (chain g d s) ch n in (r .0, λ _. r .1)
 
   -- bytes added to another file, or none to this one
-  added : 0 < g .room → {c : Block} {b : List ℕ} {s p : ℕ} → Puts g d t c b s p → let o = putFrom g b d s p 0 in (WritesTo t (c .channel) x → o .added .count ≡ 0) → Both g d (o .disk) x
+  module _ (roomy : 0 < g .room) {f : Form} {c : Block} {b : List ℕ} {s p : ℕ} (h : Puts g d t f c b s p) where
+    abbrev adding : Adds
+    adding = putFrom g (sent f b) d s p 0
+
+    walk : Walks (Grown g (c .channel) s d t) [] [] (sent f b) 0 adding
+    walk = put-adds g (c .channel) s roomy (h .on .small) d t p a (h .state) (sent f b)
+
+    kept-apart : (WritesTo t (c .channel) x → adding .added .count ≡ 0) → Both g d (adding .disk) x
+    unfolding puts
+    kept-apart q = go (ℕ-discrete x s)
+      where
+        go : Dec (x ≡ s) → Both g d (adding .disk) x
+        go (yes e) = rw (adds-leave g d s p (sent f b) .idle (q (p, h .state ∙ ap (λ y. Writing y p) (sym e)))) stay
+        go (no n) = walk .holds .others x n v
+
+  -- a put or a put record that adds no byte
+  none-fitted : (roomy : 0 < g .room) (f : Form) {c : Block} {b : List ℕ} {s p : ℕ} (h : Puts g d t f c b s p) → AddsNone f (added t (c .channel) s f b (putFrom g (sent f b) d s p 0)) → putFrom g (sent f b) d s p 0 .added .count ≡ 0
   unfolding puts
-  added roomy {c = c} {b = b} {s = s} {p = p} h q = go (ℕ-discrete x s)
-    where
-      go : Dec (x ≡ s) → Both g d (putFrom g b d s p 0 .disk) x
-      go (yes e) = rw (adds-leave g d s p b .idle (q (p, h .state ∙ ap (λ y. Writing y p) (sym e)))) stay
-      go (no n) = put-adds g (c .channel) s roomy (h .on .small) d t p a (h .state) b .holds .others x n v
+  none-fitted roomy Characters h q = q
+  none-fitted roomy Record {b = b} {s = s} {p = p} h (q, n) =
+      let w = walk roomy h in
+      let m = walk-short w n in
+      let e = w .count in
+      let l = adds-leave g d s p (sent Record b) .few in
+      let k = sent-length b in
+      omega (arith, m, l)
 
   -- the file stays, unless the call takes it; its name too, unless the call renames it
   abbrev Keeps : Call → Effect → Type 0
@@ -115,7 +138,7 @@ module _ (g : Geometry) (d : Disk) (t : Table) (a : Sound g d t) (x : ℕ) (v : 
   ends-keep roomy (refuses n w m) q = both-name stay
   ends-keep roomy (reads s k o l h) q = both-name stay
   ends-keep roomy (reads-none o e) q = both-name stay
-  ends-keep roomy (writes s p h) q = both-name (added roomy h (q .puts (h .on .command)))
+  ends-keep roomy (writes {f = f} s p h) q = both-name (kept-apart roomy h (λ w. none-fitted roomy f h (q .puts f (h .on .command) w)))
   ends-keep roomy (writes-none o e) q = both-name stay
   ends-keep roomy (frees o h) q = both-name stay
   ends-keep roomy (closes {c = c} s p h e) q = both-name (flagged s 0x42 (writer g d t a (c .channel) s p (h .on .small) (h .state) .stands) refl refl (omega arith))

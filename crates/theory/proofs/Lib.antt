@@ -10,6 +10,7 @@ pub mod Step
 pub mod Effect
 pub mod Reading
 pub mod Gets
+pub mod Filling
 pub mod Change
 pub mod SoundChange
 pub mod Stays
@@ -35,6 +36,7 @@ pub mod SoundCommands
 pub mod SoundOpen
 pub mod SoundGet
 pub mod SoundCalls
+pub mod Sending
 pub mod Written
 pub mod Shut
 pub mod Reader
@@ -59,3 +61,5 @@ pub mod Protected
 pub mod Never161
 pub mod Spelling
 pub mod ReadNames
+pub mod LinesBack
+pub mod Dropping

@@ -7,6 +7,7 @@ use Prim.Native.Nat.{ℕ}
 use Rattle.layout.specs.declared.Served.{Served}
 use Rattle.layout.specs.declared.Served.the-variants.{As, Not}
 use Rattle.rules.specs.declared.Block.{Block}
+use Rattle.rules.specs.declared.Form.the-variants.{Characters, Record}
 use Rattle.rules.specs.declared.Transfer.{Transfer}
 use Rattle.rules.specs.declared.Transfer.the-variants.{Get, Put}
 use Rattle.rules.specs.declared.FileCommand.{FileCommand}
@@ -16,7 +17,7 @@ use Rattle.layout.specs.Basics.{member}
 use Rattle.layout.specs.Image.{geometryOf, view}
 use Rattle.layout.specs.Header.{servedAs}
 use Rattle.layout.specs.Channels.{openAt}
-use Rattle.layout.specs.Status.{success, badImage, badHeader, badChannel, badCommand, notServed, channelOpen, channelClosed, writeOnly, readOnly, writeProtected, badDevice, badUnit, badName, badTable, notFound, fileLocked, fileHeld, badChain, nameTaken, noSlot, diskFull, endOfFile, lostChain, noDevice, badRequest, badLength}
+use Rattle.layout.specs.Status.{success, badImage, badHeader, badChannel, badCommand, notServed, channelOpen, channelClosed, writeOnly, readOnly, writeProtected, badDevice, badUnit, badName, badTable, notFound, fileLocked, fileHeld, badChain, nameTaken, noSlot, diskFull, endOfFile, truncated, lostChain, noDevice, badRequest, badLength}
 use Rattle.layout.proofs.Check.{check-yes, by-check}
 use Rattle.layout.proofs.Members.{passes, passes-each, member-apart}
 use Rattle.layout.proofs.Search.{all-fails, all-at}
@@ -32,7 +33,7 @@ use Rattle.theory.proofs.Demand1.{demand1}
 -- the numbers that a call can answer, all of them
 unfoldable pub numbers : List ℕ
 numbers =
-    success ∷ badImage ∷ badHeader ∷ badChannel ∷ badCommand ∷ notServed ∷ channelOpen ∷ channelClosed ∷ writeOnly ∷ readOnly ∷ writeProtected ∷ badDevice ∷ badUnit ∷ badName ∷ badTable ∷ notFound ∷ fileLocked ∷ fileHeld ∷ badChain ∷ nameTaken ∷ noSlot ∷ diskFull ∷ endOfFile ∷ lostChain ∷ noDevice ∷ badRequest ∷ badLength ∷ []
+    success ∷ badImage ∷ badHeader ∷ badChannel ∷ badCommand ∷ notServed ∷ channelOpen ∷ channelClosed ∷ writeOnly ∷ readOnly ∷ writeProtected ∷ badDevice ∷ badUnit ∷ badName ∷ badTable ∷ notFound ∷ fileLocked ∷ fileHeld ∷ badChain ∷ nameTaken ∷ noSlot ∷ diskFull ∷ endOfFile ∷ truncated ∷ lostChain ∷ noDevice ∷ badRequest ∷ badLength ∷ []
 
 -- all of a list's numbers are among them
 abbrev Within : List ℕ → Type 0
@@ -43,8 +44,9 @@ unfolding answers commandAnswers openAnswers passes member numbers
 answers-within c = by-check Within _ _ _ (λ _. refl) λ _. by-command (λ k. Within (commandAnswers (c .direction) k)) (c .command) moved refl filed refl refl
   where
     moved : (k : Transfer) → Within (commandAnswers (c .direction) (Moves k))
-    moved Get = refl
-    moved Put = refl
+    moved (Get Characters) = refl
+    moved (Get Record) = refl
+    moved (Put f) = refl
 
     filed : (k : FileCommand) → Within (commandAnswers (c .direction) (Files k))
     filed Open = by-check Within _ _ _ (λ _. refl) λ _. by-check Within _ _ _ (λ _. refl) λ _. refl

@@ -9,6 +9,8 @@ use lib.Dec.{eqb}
 use Rattle.layout.specs.declared.State.{State}
 use Rattle.layout.specs.declared.Table.{Table}
 use Rattle.layout.specs.declared.Served.the-variants.{Not}
+use Rattle.rules.specs.declared.Form.{Form}
+use Rattle.rules.specs.declared.Form.the-variants.{Characters, Record}
 use Rattle.rules.specs.declared.Block.{Block}
 use Rattle.rules.specs.declared.Place.{Place}
 use Rattle.layout.specs.Basics.{member}
@@ -19,12 +21,12 @@ use Rattle.layout.specs.Status.{writeProtected}
 use Rattle.layout.proofs.Check.{by-check, by-served}
 use Rattle.layout.proofs.Logic.{and-right}
 use Rattle.layout.proofs.Members.{member-apart}
-use Rattle.rules.specs.Get.{GetOutcome, getFrom}
-use Rattle.rules.specs.Put.{PutOutcome, putFrom, puts}
+use Rattle.rules.specs.Get.{GetOutcome, fill}
+use Rattle.rules.specs.Put.{PutOutcome, sent, putFrom, puts}
 use Rattle.rules.specs.Cio.{Outcome, ImageOutcome, cioCall}
 use Rattle.rules.specs.Recovery.{ImageRecovered, recoverCall}
 use Rattle.rules.specs.Sectors.{SectorOutcome, ImageSectorOutcome, isWrite, sector, sectorCall}
-use Rattle.rules.specs.Thin.{ImagePutOutcome, thinGet, thinPut}
+use Rattle.rules.specs.Thin.{ImagePutOutcome, readLent, thinGet, writeLent, thinPut}
 use Rattle.rules.specs.WriteHeader.{HeaderOutcome, headerCall}
 use Rattle.rules.specs.Lists.{Call, cioOf, recoveryOf, protectedIn, Machine, run, ImageTable, outcomeOf, outcomeOn, images}
 use Rattle.rules.specs.Demand1.{getAnswers}
@@ -32,7 +34,7 @@ use Rattle.rules.specs.Protected.{AllProtected, Protects, OnlyProtected}
 use Rattle.rules.proofs.Acts.{Kind, plainly, Why, plain, barred, no-table, no-chain, no-read, no-write, put-plain, put-barred, put-no-table, put-broken, PutEnds, put-refuses, put-none, put-some, Ends, refuses, reads, reads-none, writes, writes-none, frees, closes, drops, opens, rewrites, makes, tells, renames, deletes, locks, unlocks, formats, restores}
 use Rattle.rules.proofs.Ends.{get-ends, put-ends, ends}
 use Rattle.theory.proofs.Served.{kept-image, unserved-apart}
-use Rattle.theory.proofs.Answers.{by-get-from, by-put-from, get-answers}
+use Rattle.theory.proofs.Answers.{by-fill, by-put-from, get-answers}
 
 -- the notch is not both closed and open
 clash : {A : Type 0} {protected : Bool} → protected ≡ true → protected ≡ false → A
@@ -100,7 +102,7 @@ module _ {X : Type 0} (m : Machine X) (image : X → List ℕ) (keeps : (c : Cal
   list-image (c ∷ cs) x (q, qs) = list-image cs (m .next c x) qs ∙ keeps c x q
 
 pub protects : Protects
-unfolding sectorCall thinPut headerCall
+unfolding sectorCall writeLent headerCall
 protects = record {
   calls = calls;
   recoveries = λ l s. recoveries l true s refl;
@@ -127,17 +129,18 @@ module _ (g : Geometry) (d : Disk) where
   why-other (no-write i s p z r h) q e = omega arith
 
   -- bytes read, and bytes added
-  read-other : (s n : ℕ) (p : Place) (b : List ℕ) → Other (getFrom g d s n 0 p b .got .status)
-  read-other s n p b = by-get-from g Other (λ e. omega arith) (λ e. omega arith) (λ e. omega arith) d s n 0 p b
+  read-other : (f : Form) (s : ℕ) (p : Place) (b : List ℕ) → Other (fill g f d s p b .got .status)
+  read-other Characters s p b = by-fill g Other (λ e. omega arith) Characters (λ e. omega arith) (λ e. omega arith) (λ e. omega arith) d s p b
+  read-other Record s p b = by-fill g Other (λ e. omega arith) Record (λ e. omega arith) (λ e. omega arith) (λ e. omega arith) d s p b
 
   added-other : (b : List ℕ) (s p : ℕ) → Other (putFrom g b d s p 0 .added .status)
   added-other b s p = by-put-from g Other (λ e. omega arith) (λ e. omega arith) b d s p 0
 
   ends-other : {t : Table} {k : Kind} {c : Call} {o : Outcome} → Ends g d t k c o → protectedIn c ≡ false → Other (o .effect .status)
   ends-other (refuses n w m) q = why-other w q
-  ends-other (reads {b = b} s k o l h) q = read-other s _ _ b
+  ends-other (reads {f = f} {b = b} s k o l h) q = read-other f s _ b
   ends-other (reads-none o n) q = λ e. omega arith
-  ends-other (writes {b = b} s p h) q = added-other b s p
+  ends-other (writes {f = f} {b = b} s p h) q = added-other (sent f b) s p
   ends-other (writes-none o n) q = λ e. omega arith
   ends-other (frees o h) q = λ e. omega arith
   ends-other (closes s p h v) q = λ e. omega arith
@@ -174,12 +177,12 @@ unserved-other : (l : List ℕ) (n : ℕ) → servedAs l ≡ Not n → Other n
 unserved-other l = unserved-apart l writeProtected (λ e. omega arith) (λ e. omega arith)
 
 pub only-protected : OnlyProtected
-unfolding cioCall recoverCall outcomeOf sectorCall thinGet thinPut headerCall member
+unfolding cioCall recoverCall outcomeOf sectorCall readLent writeLent headerCall member
 only-protected = record {
   calls = λ l t c text b q. by-served (λ (o : ImageOutcome). Other (o .answer .status)) _ _ _ (unserved-other l) (λ m _. ends-other _ _ (ends (geometryOf m) (cioOf c text b) (record { disk = view (geometryOf m) l; table = t })) q);
   recoveries = λ l s. by-served (λ (o : ImageRecovered). Other (o .reply .status)) _ _ _ (unserved-other l) (λ m _. ends-other _ _ (ends (geometryOf m) (recoveryOf false s) (record { disk = view (geometryOf m) l; table = freshTable })) refl);
   sectors = λ l device unit command k b. by-served (λ (o : ImageSectorOutcome). Other (o .reply .status)) _ _ _ (unserved-other l) (λ m _. sector-other (geometryOf m) (view (geometryOf m) l) device unit command k b);
-  thinGets = λ l c b. by-served (λ (o : GetOutcome). Other (o .answer .status)) _ _ _ (unserved-other l) (λ m _. member-apart writeProtected getAnswers refl _ (get-answers _ _ (get-ends (geometryOf m) (view (geometryOf m) l) (c .state) b)));
+  thinGets = λ l c b. by-served (λ (o : GetOutcome). Other (o .answer .status)) _ _ _ (unserved-other l) (λ m _. member-apart writeProtected getAnswers refl _ (get-answers _ _ (get-ends (geometryOf m) (view (geometryOf m) l) Characters (c .state) b)));
   thinPuts = λ l c b. by-served (λ (o : ImagePutOutcome). Other (o .answer .status)) _ _ _ (unserved-other l) (λ m _. put-other _ _ (put-ends (geometryOf m) (view (geometryOf m) l) false (c .state) b));
   headers = λ l.
       let P : HeaderOutcome → Type 0 = λ o. Other (o .reply .status) in

@@ -1,12 +1,12 @@
 -- What is put on a channel, among any other calls, is the file, and stays after the close.
 use mathlib.Core.List.{List, [], _∷_, _++_, append-assoc, append-nil}
+use mathlib.Core.Logic.{_⊎_, inl, inr}
 use mathlib.Core.Path.{_≡_, refl, sym, _∙_}
 use Prim.Native.Nat.{ℕ, _<_}
 use native.Mathlib.Omega.{arith}
-use lib.ListN.{take}
-use lib.Seq.{take-length}
 use Rattle.layout.specs.declared.State.the-variants.{Reading}
 use Rattle.rules.specs.declared.Block.{Block}
+use Rattle.rules.specs.declared.Form.{Form}
 use Rattle.rules.specs.declared.Transfer.the-variants.{Put}
 use Rattle.rules.specs.declared.FileCommand.the-variants.{Open}
 use Rattle.rules.specs.declared.Command.the-variants.{Moves, Close, Files}
@@ -26,7 +26,7 @@ use Rattle.theory.proofs.Stays.{stays-file}
 use Rattle.theory.proofs.SoundChange.{writes-holds}
 use Rattle.theory.proofs.SoundCalls.{call-sound}
 use Rattle.theory.proofs.Writer.{Written, writer}
-use Rattle.theory.proofs.Moving.{Moving, moves, rests, moving-all, put-moving}
+use Rattle.theory.proofs.Moving.{put-on, NoPut, putting}
 use Rattle.theory.proofs.Written.{open-written, put-answers, put-call}
 use Rattle.theory.proofs.Shut.{close-call, close-stays, find-is}
 use Rattle.theory.proofs.Channel.{QuietCall, quiet-state, quiet-keeps}
@@ -51,14 +51,14 @@ module _ (g : Geometry) (roomy : 0 < g .room) (i s : ℕ) (z : i < 8) (w : ℕ �
 
   call-written : (c : Call) (r : List ℕ) (y : System) → (On i Close c → perform g c y .status ≡ writeProtected) → Written g i s w r y → Written g i s w (r ++ putBy i c (outcomeOf g c y)) (after (perform g c y))
   unfolding putBy
-  call-written (cioOf c text b) r y n h = go (put-moving i c text b (take (perform g call y .count) b))
+  call-written (cioOf c text b) r y n h = go (putting i c text b)
     where
       call : Call
       call = cioOf c text b
 
-      go : {l : List ℕ} → Moving (On i (Moves Put) call) (take (perform g call y .count) b) l → Written g i s w (r ++ l) (after (perform g call y))
-      go (moves q) = put-call g roomy i s z w r y h call q .0
-      go (rests f) = rw append-nil (quiet-written call r y h (record { closes = λ e k. n (k, e); gets = λ e k x p o l. not-reading y r h x p o l; puts = λ e k x p _. f (k, e) }))
+      go : ((f : Form) × On i (Moves (Put f)) call) ⊎ NoPut i c text b → Written g i s w (r ++ putBy i call (outcomeOf g call y)) (after (perform g call y))
+      go (inl (f, q)) = rw (put-on i c text b q (outcomeOf g call y)) (put-call g roomy i s z w r y h f c text b q .0)
+      go (inr q) = rw (q .put (outcomeOf g call y), append-nil) (quiet-written call r y h (record { closes = λ e k. n (k, e); gets = λ f e k x p o l. not-reading y r h x p o l; puts = λ f e k x p _. q .none (k, e) }))
   call-written (recoveryOf protected x) r y n h = rw append-nil (quiet-written (recoveryOf protected x) r y h tt)
 
   calls-written : (cs : List Call) (r : List ℕ) (y : System) → StaysOpen i (events (disks g) cs y) → Written g i s w r y → Written g i s w (r ++ putBytes i (events (disks g) cs y)) (run (disks g) cs y)
@@ -93,7 +93,7 @@ put-calls g roomy y a i s z (p, e) cs n = record {
   bytes = h .bytes;
   named = h .named;
   next = put-answers g roomy i s z w _ x h;
-  whole = λ c text b q k. moving-all (put-moving i c text b (take (perform g (cioOf c text b) x .count) b)) q ∙ rw (put-call g roomy i s z w _ x h (cioOf c text b) q .1 k) (take-length b);
+  whole = λ f c text b q k. put-on i c text b q (outcomeOf g (cioOf c text b) x) ∙ put-call g roomy i s z w _ x h f c text b q .1 k;
   stays = close-stays g i s z w _ x h;
   closes = λ c q o.
       let (k, u) = close-call g i s z w (file g (y .disk) s ++ putBytes i (events (disks g) cs y)) x h c q o in

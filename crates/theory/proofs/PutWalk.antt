@@ -1,6 +1,7 @@
 -- The bytes of a put, one after the other: where each goes, and what holds of the disk behind them all.
 use mathlib.Core.Bool.{true}
 use mathlib.Core.List.{List, [], _∷_, _++_, append-assoc, append-nil}
+use mathlib.Core.Logic.{_≢_}
 use mathlib.Core.Path.{_≡_, refl, ap, _∙_}
 use Prim.Native.Nat.{ℕ, suc, _+_, _<_}
 use native.Mathlib.Decide.{ℕ-discrete, decLt}
@@ -8,6 +9,7 @@ use native.Mathlib.Omega.{arith}
 use lib.Dec.{eqb, eqb·suc-suc, eqb·zero-suc}
 use lib.ListN.{length, take}
 use lib.Seq.{append-snoc}
+use borrow.Author.Tests.{eq-eqb}
 use Rattle.layout.specs.Basics.{if}
 use Rattle.layout.specs.Image.{Disk, Geometry}
 use Rattle.layout.specs.Volume.{dataSector, free, lowest}
@@ -28,6 +30,10 @@ pub record Walks (I : List ℕ → List ℕ → Disk → ℕ → Type 0) (b l xs
   pub count : o .added .count ≡ n + fitted
   pub status : o .added .status ≡ if (eqb fitted (length xs)) success diskFull
   pub holds : I (b ++ take fitted xs) (l ++ o .given) (o .disk) (o .added .last)
+
+-- fewer fitted where it does not answer 1
+pub walk-short : {I : List ℕ → List ℕ → Disk → ℕ → Type 0} {b l xs : List ℕ} {n : ℕ} {o : Adds} (w : Walks I b l xs n o) → o .added .status ≢ success → w .fitted ≢ length xs
+walk-short {xs = xs} w h e = h (w .status ∙ rw (eq-eqb (w .fitted) (length xs) e))
 
 -- what is kept by a byte added to the last sector, and by the lowest free sector given out behind it, holds behind them all
 module _ (g : Geometry) (roomy : 0 < g .room) (s : ℕ) (z : s < 64) (I : List ℕ → List ℕ → Disk → ℕ → Type 0)

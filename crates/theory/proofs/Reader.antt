@@ -1,4 +1,4 @@
--- A channel that reads: what it has yet to hand out, and a get from it.
+-- A channel that reads: what it has yet to hand out, and a get or a get record from it.
 use mathlib.Core.List.{List}
 use mathlib.Core.Path.{_≡_, refl, sym, ap, _∙_}
 use Prim.Native.Nat.{ℕ, _<_}
@@ -8,13 +8,14 @@ use lib.ListN.{length, take, drop, drop-of-length-le}
 use lib.Seq.{take-all, length-take-le, drop-length}
 use Rattle.layout.specs.declared.State.the-variants.{Reading}
 use Rattle.rules.specs.declared.Block.{Block}
+use Rattle.rules.specs.declared.Form.{Form}
 use Rattle.rules.specs.declared.Transfer.the-variants.{Get}
 use Rattle.rules.specs.declared.Command.the-variants.{Moves}
 use Rattle.layout.specs.Image.{Geometry}
 use Rattle.layout.specs.Channels.{stateOf}
 use Rattle.rules.specs.Lists.{cioOf, System, after, outcomeOf}
 use Rattle.rules.specs.Sound.{Sound}
-use Rattle.rules.specs.Demand2.{On, HandsOut}
+use Rattle.rules.specs.Demand2.{On, offered, leftOf, HandsOut}
 use Rattle.rules.proofs.Does.{does-get}
 use Rattle.theory.proofs.Reading.{rest}
 use Rattle.theory.proofs.SoundChan.{state-at}
@@ -38,14 +39,14 @@ left-over r b = go (decLt (length r) (length b))
     go (yes h) = rw (take-all (length b) r (omega arith))
     go (no h) = rw (length-take-le (length b) r (omega arith), drop-length b) (sym (drop-of-length-le b {i = length r} (omega arith)))
 
--- a get from it, as a call on channel i
-pub get-call : (g : Geometry) (s i : ℕ) → i < 8 → (c : Block) (text b : List ℕ) → On i (Moves Get) (cioOf c text b) → (r : List ℕ) (y : System) → Reads g s r y i
-    → let o = outcomeOf g (cioOf c text b) y in HandsOut r b o × Reads g s (drop (length b) r) (after (o .effect)) i × (o .effect .disk ≡ y .disk)
+-- one from it, as a call on channel i
+pub get-call : (g : Geometry) (s i : ℕ) → i < 8 → (f : Form) (c : Block) (text b : List ℕ) → On i (Moves (Get f)) (cioOf c text b) → (r : List ℕ) (y : System) → Reads g s r y i
+    → let o = outcomeOf g (cioOf c text b) y in HandsOut f r b o × Reads g s (leftOf f (length b) r) (after (o .effect)) i × (o .effect .disk ≡ y .disk)
 unfolding outcomeOf
-get-call g s i z c text b (e, f) r y h =
-    let w = rw (h .bytes) at (get-on g (y .disk) (y .table) (h .sound) i z s (h .sector) (h .offset) (h .left) (h .reads) b) in
+get-call g s i z form c text b (e, f) r y h =
+    let w = rw (h .bytes) at (get-on g (y .disk) (y .table) (h .sound) i z s (h .sector) (h .offset) (h .left) (h .reads) form b) in
     rw (does-get g (y .disk) (y .table) c text b (record { small = rw e z; command = f }) (ap (stateOf (y .table)) e ∙ h .reads), e) (
-      record { status = w .status; count = w .count; buffer = w .buffer ∙ rw (left-over r b) },
+      record { status = w .status; count = w .count; buffer = w .buffer ∙ rw (left-over (offered form r) b) },
       record { sound = w .sound; sector = w .sector; offset = w .offset; left = w .left; reads = state-at g (y .disk) (y .table) (h .sound) i z _ ∙ w .state; bytes = w .rests },
       refl,
     )

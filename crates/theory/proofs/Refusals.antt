@@ -9,6 +9,8 @@ use Rattle.layout.specs.declared.Table.{Table}
 use Rattle.layout.specs.declared.density.Medium.{Medium}
 use Rattle.layout.specs.declared.Served.the-variants.{As}
 use Rattle.rules.specs.declared.Place.{Place}
+use Rattle.rules.specs.declared.Form.{Form}
+use Rattle.rules.specs.declared.Form.the-variants.{Characters, Record}
 use Rattle.rules.specs.declared.Transfer.the-variants.{Get, Put}
 use Rattle.rules.specs.declared.Command.{Command}
 use Rattle.rules.specs.declared.Command.the-variants.{Moves}
@@ -18,19 +20,19 @@ use Rattle.layout.specs.Header.{servedAs}
 use Rattle.layout.specs.Channels.{freshTable}
 use Rattle.layout.specs.Status.{success}
 use Rattle.layout.proofs.Check.{by-check, by-served}
-use Rattle.rules.specs.Get.{GetOutcome, getFrom, gets}
-use Rattle.rules.specs.Put.{PutOutcome, putFrom, puts}
+use Rattle.rules.specs.Get.{GetOutcome, fill, gets}
+use Rattle.rules.specs.Put.{PutOutcome, sent, putFrom, puts}
 use Rattle.rules.specs.Cio.{Outcome, ImageOutcome, commandOf, leaves, cioCall}
 use Rattle.rules.specs.Recovery.{ImageRecovered, recoverCall}
 use Rattle.rules.specs.Sectors.{SectorOutcome, ImageSectorOutcome, sector, sectorCall}
-use Rattle.rules.specs.Thin.{ImagePutOutcome, thinGet, thinPut}
+use Rattle.rules.specs.Thin.{ImagePutOutcome, readLent, thinGet, writeLent, thinPut}
 use Rattle.rules.specs.WriteHeader.{HeaderOutcome, headerCall}
 use Rattle.rules.specs.Lists.{Call, cioOf, recoveryOf, outcomeOf}
 use Rattle.rules.specs.Demand1.{partials, Refusal, Unchanged, Refusals}
 use Rattle.rules.proofs.Acts.{Kind, asks, recovers, bufferOf, GetEnds, get-closed, get-writing, get-broken, get-none, get-some, PutEnds, put-refuses, put-none, put-some, Ends, refuses, reads, reads-none, writes, writes-none, frees, closes, drops, opens, rewrites, makes, tells, renames, deletes, locks, unlocks, formats, restores}
 use Rattle.rules.proofs.Ends.{get-ends, put-ends, ends}
 use Rattle.theory.proofs.Served.{kept-image}
-use Rattle.theory.proofs.Answers.{by-get-from, by-put-from}
+use Rattle.theory.proofs.Answers.{by-fill, by-put-from}
 
 -- what is no refusal: success, and a partial transfer
 module _ {A : Type 0} {k : Command} where
@@ -41,13 +43,14 @@ module _ {A : Type 0} {k : Command} where
   partial m h = absurd (true≢false (sym m ∙ h .whole))
 
 -- so what bytes read answer is no refusal, nor what bytes added do
-bytes-read : {A : Type 0} (g : Geometry) (d : Disk) (s n : ℕ) (p : Place) (b : List ℕ) → Refusal (Moves Get) (getFrom g d s n 0 p b .got .status) → A
+bytes-read : {A : Type 0} (g : Geometry) (d : Disk) (f : Form) (s : ℕ) (p : Place) (b : List ℕ) → Refusal (Moves (Get f)) (fill g f d s p b .got .status) → A
 unfolding partials member
-bytes-read {A = A} g d s n p b = by-get-from g (λ n. Refusal (Moves Get) n → A) done (partial refl) (partial refl) d s n 0 p b
+bytes-read {A = A} g d Characters s p b = by-fill g (λ n. Refusal (Moves (Get Characters)) n → A) done Characters done (partial refl) (partial refl) d s p b
+bytes-read {A = A} g d Record s p b = by-fill g (λ n. Refusal (Moves (Get Record)) n → A) done Record (partial refl) (partial refl) (partial refl) d s p b
 
-bytes-added : {A : Type 0} (g : Geometry) (d : Disk) (s p : ℕ) (b : List ℕ) → Refusal (Moves Put) (putFrom g b d s p 0 .added .status) → A
+bytes-added : {A : Type 0} (g : Geometry) (d : Disk) (f : Form) (s p : ℕ) (b : List ℕ) → Refusal (Moves (Put f)) (putFrom g b d s p 0 .added .status) → A
 unfolding partials member
-bytes-added {A = A} g d s p b = by-put-from g (λ n. Refusal (Moves Put) n → A) done (partial refl) b d s p 0
+bytes-added {A = A} g d f s p b = by-put-from g (λ n. Refusal (Moves (Put f)) n → A) done (partial refl) b d s p 0
 
 -- what a refused get, put or sector call leaves of a disk and of what it was lent
 abbrev GetKept : State → List ℕ → GetOutcome → Type 0
@@ -73,19 +76,19 @@ Refuses recovers n = n ≢ success
 
 module _ (g : Geometry) (d : Disk) where
   -- a get and a put on one channel
-  get-kept : {st : State} {b : List ℕ} {o : GetOutcome} → GetEnds g d b st o → Refusal (Moves Get) (o .answer .status) → GetKept st b o
+  get-kept : {st : State} {b : List ℕ} {o : GetOutcome} → GetEnds g d Characters b st o → Refusal (Moves (Get Characters)) (o .answer .status) → GetKept st b o
   unfolding gets
   get-kept get-closed h = (refl, refl, refl)
   get-kept (get-writing s p) h = (refl, refl, refl)
   get-kept (get-broken s k o l p) h = (refl, refl, refl)
   get-kept (get-none s k o l p) h = (refl, refl, refl)
-  get-kept {b = b} (get-some s k o l n p) h = bytes-read g d s _ _ b h
+  get-kept {b = b} (get-some s k o l n p) h = bytes-read g d Characters s _ b h
 
-  put-kept : {protected : Bool} {st : State} {b : List ℕ} {o : PutOutcome} → PutEnds g d protected b st o → Refusal (Moves Put) (o .answer .status) → PutKept d st o
+  put-kept : {protected : Bool} {st : State} {b : List ℕ} {o : PutOutcome} → PutEnds g d protected b st o → Refusal (Moves (Put Characters)) (o .answer .status) → PutKept d st o
   unfolding puts
   put-kept (put-refuses st n w m) h = (refl, refl, refl)
   put-kept (put-none s p q) h = (refl, refl, refl)
-  put-kept {b = b} (put-some s p u n q r) h = bytes-added g d s p b h
+  put-kept {b = b} (put-some s p u n q r) h = bytes-added g d Characters s p b h
 
   sector-refused : (protected : Bool) (device unit command k : ℕ) (b : List ℕ) → sector g d protected device unit command k b .reply .status ≢ success → SectorKept d b (sector g d protected device unit command k b)
   unfolding sector
@@ -98,9 +101,9 @@ module _ (g : Geometry) (d : Disk) where
   call-kept : {t : Table} {k : Kind} {c : Call} {o : Outcome} → Ends g d t k c o → Refuses k (o .effect .status) → Kept d t (bufferOf c) o
   unfolding partials member
   call-kept (refuses n w m) h = record { count = refl; disk = refl; table = refl; buffer = refl }
-  call-kept (reads {b = b} s k o l p) h = bytes-read g d s _ _ b h
+  call-kept (reads {f = f} {b = b} s k o l p) h = bytes-read g d f s _ b h
   call-kept (reads-none o e) h = done h
-  call-kept (writes {b = b} s p q) h = bytes-added g d s p b h
+  call-kept (writes {f = f} {b = b} s p q) h = bytes-added g d f s p (sent f b) h
   call-kept (writes-none o e) h = done h
   call-kept (frees o p) h = done h
   call-kept (closes s p q e) h = done h
@@ -122,7 +125,7 @@ unchanged l m w t b o u = record { count = u .count; image = kept-image l m w _ 
 
 -- 203, 205 and a refusal of the call on the disk alike
 pub refusals : Refusals
-unfolding cioCall recoverCall outcomeOf sectorCall thinGet thinPut headerCall
+unfolding cioCall recoverCall outcomeOf sectorCall readLent writeLent headerCall
 refusals = record {
   calls = λ l t c text b. by-served (λ (o : ImageOutcome). Refusal (commandOf (c .command)) (o .answer .status) → Unchanged l t b o) _ _ _
       (λ _ _ _. record { count = refl; image = refl; table = refl; buffer = refl }) (λ m w h. unchanged l m w t b _ (call-kept _ _ (ends (geometryOf m) (cioOf c text b) (record { disk = view (geometryOf m) l; table = t })) h));
@@ -130,8 +133,8 @@ refusals = record {
       (λ m w h. let k = call-kept _ _ (ends (geometryOf m) (recoveryOf protected s) (record { disk = view (geometryOf m) l; table = freshTable })) h in (k .count, kept-image l m w _ (k .disk)));
   sectors = λ l protected device unit command k b. by-served (λ (o : ImageSectorOutcome). o .reply .status ≢ success → (o .reply .count ≡ 0) × (o .image ≡ l) × (o .buffer ≡ b)) _ _ _ (λ _ _ _. (refl, refl, refl))
       (λ m w h. let (n, e, f) = sector-refused (geometryOf m) (view (geometryOf m) l) protected device unit command k b h in (n, kept-image l m w _ e, f));
-  thinGets = λ l c b. by-served (λ (o : GetOutcome). Refusal (Moves Get) (o .answer .status) → GetKept (c .state) b o) _ _ _ (λ _ _ _. (refl, refl, refl)) (λ m _. get-kept _ _ (get-ends (geometryOf m) (view (geometryOf m) l) (c .state) b));
-  thinPuts = λ l protected c b. by-served (λ (o : ImagePutOutcome). Refusal (Moves Put) (o .answer .status) → (o .answer .count ≡ 0) × (o .answer .state ≡ c .state) × (o .image ≡ l)) _ _ _ (λ _ _ _. (refl, refl, refl))
+  thinGets = λ l c b. by-served (λ (o : GetOutcome). Refusal (Moves (Get Characters)) (o .answer .status) → GetKept (c .state) b o) _ _ _ (λ _ _ _. (refl, refl, refl)) (λ m _. get-kept _ _ (get-ends (geometryOf m) (view (geometryOf m) l) Characters (c .state) b));
+  thinPuts = λ l protected c b. by-served (λ (o : ImagePutOutcome). Refusal (Moves (Put Characters)) (o .answer .status) → (o .answer .count ≡ 0) × (o .answer .state ≡ c .state) × (o .image ≡ l)) _ _ _ (λ _ _ _. (refl, refl, refl))
       (λ m w h. let (n, f, e) = put-kept _ _ (put-ends (geometryOf m) (view (geometryOf m) l) protected (c .state) b) h in (n, f, kept-image l m w _ e));
   headers = λ l protected.
       let P : HeaderOutcome → Type 0 = λ o. o .reply .status ≢ success → (o .reply .count ≡ 0) × (o .image ≡ l) in

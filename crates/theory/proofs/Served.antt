@@ -27,7 +27,7 @@ use Rattle.rules.specs.Cio.{ImageOutcome, leaves, cio, cioCall}
 use Rattle.rules.specs.Recovery.{ImageRecovered, recover, recoverCall}
 use Rattle.rules.specs.Sectors.{ImageSectorOutcome, sector, sectorCall}
 use Rattle.rules.specs.Showing.{shows}
-use Rattle.rules.specs.Thin.{ImagePutOutcome, thinGet, thinPut}
+use Rattle.rules.specs.Thin.{ImagePutOutcome, readLent, thinGet, writeLent, thinPut}
 use Rattle.rules.specs.Demand1.{Unserved, Reasons}
 use Rattle.theory.proofs.Placed.{Placed, view-placed, placed-view}
 
@@ -51,11 +51,11 @@ module _ (l : List ℕ) (m : Medium) (w : servedAs l ≡ As m) where
   sector-on protected device unit command k b = served-as {A = ImageSectorOutcome} (servedAs l) _ _ w
 
   pub thin-get-on : (c : Channel) (b : List ℕ) → thinGet l c b ≡ getOn g (view g l) (c .state) b
-  unfolding thinGet
+  unfolding readLent
   thin-get-on c b = served-as {A = GetOutcome} (servedAs l) _ _ w
 
   pub thin-put-on : (protected : Bool) (c : Channel) (b : List ℕ) → let o = putOn g (view g l) protected (c .state) b in thinPut l protected c b ≡ record { answer = o .answer; image = imageOf g (length l) (o .disk); given = o .given }
-  unfolding thinPut
+  unfolding writeLent
   thin-put-on protected c b = served-as {A = ImagePutOutcome} (servedAs l) _ _ w
 
   -- the image of the disk that it held before is the same list
@@ -78,7 +78,7 @@ module _ (l : List ℕ) (m : Medium) (w : servedAs l ≡ As m) where
     held-served = served-again l held m w (image-length g (length l) d) (λ j b. sym (view-header m held j b) ∙ ap (λ (r : Sector). r j) (ap (λ (e : Disk). e 0) held-view ∙ p .header) ∙ view-header m l j b)
 
 pub unserved : (l : List ℕ) (n : ℕ) → servedAs l ≡ Not n → Unserved l n
-unfolding cioCall recoverCall sectorCall thinGet thinPut shows
+unfolding cioCall recoverCall sectorCall readLent writeLent shows
 unserved l n w = record {
   calls = λ t c text b. ap (λ (o : ImageOutcome). o .answer .status) (served-not {A = ImageOutcome} _ _ _ w);
   recoveries = λ protected s. ap (λ (r : ImageRecovered). r .reply .status) (served-not {A = ImageRecovered} _ _ _ w);

@@ -24,12 +24,12 @@ use Rattle.layout.proofs.Logic.{and-left, or-right}
 use Rattle.layout.proofs.Image.{values-length}
 use Rattle.layout.proofs.Chain.{fits-pos}
 use Rattle.rules.specs.declared.Seek.the-variants.{Ready, Broken}
-use Rattle.rules.specs.Get.{GetOutcome, place, reads, gets, hasByte, seek, getFrom, readable, getOn}
+use Rattle.rules.specs.Get.{GetOutcome, place, reads, gets, hasByte, seek, readFrom, getFrom, fill, readable, readOn, getOn}
 use Rattle.rules.specs.Showing.{enters, shows, shownLength, shownPart}
 use Rattle.rules.proofs.Showing as told
 use Rattle.rules.proofs.Showing.{enters-true, shows-is, start-yes, length-yes, shown-none, shown-within}
 use Rattle.theory.specs.Shown.{AtEdge, Gives, Stops, ShownOn, Shown}
-use Rattle.theory.proofs.Gets.{filled}
+use Rattle.theory.proofs.Gets.{one-more}
 use Rattle.theory.proofs.SectorCalls.{sector-part}
 use Rattle.theory.proofs.Served.{laws, thin-get-on}
 
@@ -46,7 +46,7 @@ module _ (g : Geometry) (d : Disk) (s : ℕ) where
 
   -- bytes of one sector, one after the other
   get-within : (n k o l i : ℕ) (b : List ℕ) → k ≢ 0 → o + n ≤ inUse g (d k) → i + n ≤ length b → getFrom g d s n i (place k o l) b ≡ reads success (i + n) (place k (o + n) l) (take i b ++ (valuesFrom (d k) n o ++ drop (i + n) b))
-  unfolding getFrom valuesFrom
+  unfolding readFrom valuesFrom
   get-within zero k o l i b z h e = rw (add-zero i, add-zero o, take-append-drop i b)
   get-within (suc n) k o l i b z h e =
       let x = d k o in
@@ -55,7 +55,7 @@ module _ (g : Geometry) (d : Disk) (s : ℕ) where
       let p : i + 1 + n ≡ i + suc n = omega arith in
       let q : o + 1 + n ≡ o + suc n = omega arith in
       let len : length vs ≡ n = values-length (d k) n (o + 1) in
-      let f : take (i + 1) b' ++ (vs ++ drop (i + 1 + n) b') ≡ take i b ++ x ∷ (vs ++ drop (i + suc n) b) = rw len at (filled b vs i x (omega arith)) in
+      let f : take (i + 1) b' ++ (vs ++ drop (i + 1 + n) b') ≡ take i b ++ x ∷ (vs ++ drop (i + suc n) b) = rw len at (one-more b vs i x (omega arith)) in
       step n i k o l b (seek-here k o l (has-byte k o z (omega arith)))
       ∙ get-within n k (o + 1) l (i + 1) b' z (omega arith) (rw length-set (omega arith))
       ∙ ap (λ m. reads success m (place k (o + 1 + n) l) (take (i + 1) b' ++ (vs ++ drop (i + 1 + n) b'))) p
@@ -63,7 +63,7 @@ module _ (g : Geometry) (d : Disk) (s : ℕ) where
       ∙ ap (reads success (i + suc n) (place k (o + suc n) l)) f
     where
       step : (n i k o l : ℕ) (b : List ℕ) → seek g d s k o l ≡ Ready (place k o l) → getFrom g d s (suc n) i (place k o l) b ≡ getFrom g d s n (i + 1) (place k (o + 1) l) (set b i (d k o))
-      step n i k o l b e = rw (e, getFrom)
+      step n i k o l b e = rw (e, readFrom)
 
   -- at the edge of sector k the next byte is sought there, where it fits
   module _ (j o k n : ℕ) (e : AtEdge g d s j o k) where
@@ -82,22 +82,22 @@ module _ (g : Geometry) (d : Disk) (s : ℕ) where
         rw (low, f, le-leb 0 (inUse g (d k)) (omega arith)) (or-right (eqb k 0) true refl)
 
     edge-get : (i : ℕ) (b : List ℕ) → fits g (d k) s k ≡ true → 0 < i → getFrom g d s i 0 (place j o (suc n)) b ≡ getFrom g d s i 0 (place k 0 n) b
-    unfolding getFrom
+    unfolding readFrom
     edge-get zero b f z = absurd (omega arith)
-    edge-get (suc i) b f z = rw (sought f, getFrom)
+    edge-get (suc i) b f z = rw (sought f, readFrom)
 
     edge-stop : (i : ℕ) (b : List ℕ) → fits g (d k) s k ≡ false → 0 < i → getFrom g d s i 0 (place j o (suc n)) b ≡ reads badChain 0 (place j o (suc n)) b
-    unfolding getFrom
+    unfolding readFrom
     edge-stop zero b f z = absurd (omega arith)
-    edge-stop (suc i) b f z = rw (broken f, getFrom)
+    edge-stop (suc i) b f z = rw (broken f, readFrom)
 
     on-edge : (b : List ℕ) → 0 < length b → getOn g d (Reading s j o (suc n)) b ≡ gets s (getFrom g d s (length b) 0 (place j o (suc n)) b)
-    unfolding getOn
+    unfolding readOn fill
     on-edge b z = check-no {A = GetOutcome} _ _ _ (ne-eqb (length b) 0 (omega arith)) ∙ check-no {A = GetOutcome} _ _ _ (ap not (e .tested))
 
     -- from the sector's first byte
     first-get : (b : List ℕ) → 0 < length b → fits g (d k) s k ≡ true → getOn g d (Reading s k 0 n) b ≡ gets s (getFrom g d s (length b) 0 (place k 0 n) b)
-    unfolding getOn
+    unfolding readOn fill
     first-get b z f = check-no {A = GetOutcome} _ _ _ (ne-eqb (length b) 0 (omega arith)) ∙ check-no {A = GetOutcome} _ _ _ (ap not (first-tested f))
 
     enter-edge : (b : List ℕ) → 0 < length b → fits g (d k) s k ≡ true → getOn g d (Reading s j o (suc n)) b ≡ getOn g d (Reading s k 0 n) b

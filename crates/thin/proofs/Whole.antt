@@ -1,4 +1,4 @@
--- A thin call on the record of a channel does to it what a get or a put does to that channel of a table.
+-- A read or a write on the record of a channel does to it what a get or a put of the same form does to that channel of a table.
 use mathlib.Core.List.{List, []}
 use mathlib.Core.Path.{_≡_, refl, sym, ap, _∙_}
 use Prim.Native.Nat.{ℕ, _<_}
@@ -14,12 +14,13 @@ use Rattle.layout.proofs.Check.{served-as, served-not}
 use Rattle.layout.proofs.Header.{served-whole}
 use Rattle.layout.proofs.Image.{lawful, image-view}
 use Rattle.rules.specs.declared.Block.{Block}
+use Rattle.rules.specs.declared.Form.{Form}
 use Rattle.rules.specs.declared.Transfer.the-variants.{Get, Put}
 use Rattle.rules.specs.declared.Command.the-variants.{Moves}
 use Rattle.rules.specs.Get.{GetOutcome}
 use Rattle.rules.specs.Commands.{putAt}
 use Rattle.rules.specs.Cio.{getAt, Asks, transfer, command, ImageOutcome, leaves, cioCall}
-use Rattle.rules.specs.Thin.{ImagePutOutcome, thinGet, thinPut}
+use Rattle.rules.specs.Thin.{ImagePutOutcome, readLent, writeLent}
 use Rattle.rules.proofs.Does.{does}
 
 -- what a call answers, with the image and the buffer after it
@@ -37,11 +38,11 @@ module _ (l : List ℕ) (t : Table) where
 
   -- with a channel of the table
   module _ (c : Block) (text b : List ℕ) (low : c .channel < 8) where
-    pub get-whole : Asks c (Moves Get) → cioCall l t c text b ≡ getWhole (c .channel) (thinGet l (channel (stateOf t (c .channel))) b)
-    unfolding cioCall command transfer getAt thinGet
-    get-whole e = go (servedAs l) refl
+    pub get-whole : {f : Form} → Asks c (Moves (Get f)) → cioCall l t c text b ≡ getWhole (c .channel) (readLent f l (channel (stateOf t (c .channel))) b)
+    unfolding cioCall command transfer getAt readLent
+    get-whole {f = f} e = go (servedAs l) refl
       where
-        go : (v : Served) → servedAs l ≡ v → cioCall l t c text b ≡ getWhole (c .channel) (thinGet l (channel (stateOf t (c .channel))) b)
+        go : (v : Served) → servedAs l ≡ v → cioCall l t c text b ≡ getWhole (c .channel) (readLent f l (channel (stateOf t (c .channel))) b)
         go (Not status) q =
             served-not {A = ImageOutcome} _ _ _ q ∙ ap (λ u. tells status 0 u l b []) (sym (with-id t (c .channel) _ refl))
             ∙ ap (getWhole (c .channel)) (sym (served-not {A = GetOutcome} _ _ _ q))
@@ -50,11 +51,11 @@ module _ (l : List ℕ) (t : Table) where
             served-as {A = ImageOutcome} _ _ _ q ∙ ap (leaves g l) (does g (view g l) t c text b (record { small = low; command = e }))
             ∙ rw (image-view g (lawful m (served-whole l m q .0)) l) (ap (getWhole (c .channel)) (sym (served-as {A = GetOutcome} _ _ _ q)))
 
-    pub put-whole : Asks c (Moves Put) → cioCall l t c text b ≡ putWhole (c .channel) b (thinPut l (c .protected) (channel (stateOf t (c .channel))) b)
-    unfolding cioCall command transfer putAt thinPut
-    put-whole e = go (servedAs l) refl
+    pub put-whole : {f : Form} → Asks c (Moves (Put f)) → cioCall l t c text b ≡ putWhole (c .channel) b (writeLent f l (c .protected) (channel (stateOf t (c .channel))) b)
+    unfolding cioCall command transfer putAt writeLent
+    put-whole {f = f} e = go (servedAs l) refl
       where
-        go : (v : Served) → servedAs l ≡ v → cioCall l t c text b ≡ putWhole (c .channel) b (thinPut l (c .protected) (channel (stateOf t (c .channel))) b)
+        go : (v : Served) → servedAs l ≡ v → cioCall l t c text b ≡ putWhole (c .channel) b (writeLent f l (c .protected) (channel (stateOf t (c .channel))) b)
         go (Not status) q =
             served-not {A = ImageOutcome} _ _ _ q ∙ ap (λ u. tells status 0 u l b []) (sym (with-id t (c .channel) _ refl))
             ∙ ap (putWhole (c .channel) b) (sym (served-not {A = ImagePutOutcome} _ _ _ q))

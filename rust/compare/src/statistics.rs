@@ -5,7 +5,7 @@ use std::fmt::{self, Display, Formatter};
 
 use model::image::Kind;
 
-use crate::step::{Call, Cio, Step};
+use crate::step::{Buffer, Call, Cio, Step};
 
 /// Counts of answers by kind of call and status.
 type Answers = BTreeMap<&'static str, BTreeMap<u8, usize>>;
@@ -16,6 +16,9 @@ pub struct Statistics {
     answers: Answers,
     /// Those of calls with a name that a blank ends.
     by_blank: Answers,
+    /// Those of records that were cut: by the buffer's end within a line, or by a disk that was full
+    /// before a put record's own end of line.
+    cut: Answers,
     images: BTreeMap<Kind, usize>,
     protected: usize,
 }
@@ -29,6 +32,9 @@ impl Statistics {
             add(&mut self.answers, kind, status);
             if let Some(kind) = kind_by_blank(call, kind) {
                 add(&mut self.by_blank, kind, status);
+            }
+            if let Some(kind) = kind_cut(call, kind, answer) {
+                add(&mut self.cut, kind, status);
             }
             *self.images.entry(image).or_default() += 1;
             self.protected += usize::from(*notch != 0);
@@ -49,6 +55,12 @@ impl Statistics {
     /// kind of its own.
     pub fn statuses_by_blank(&self, kind: &str) -> Vec<u8> {
         statuses(&self.by_blank, kind)
+    }
+
+    /// The same for records that were cut: `get record` by its buffer's end, `put record` before its
+    /// own end of line.
+    pub fn statuses_cut(&self, kind: &str) -> Vec<u8> {
+        statuses(&self.cut, kind)
     }
 }
 
@@ -83,7 +95,10 @@ fn kind(call: &Call, all_open: bool) -> &'static str {
 /// The kind of a call with a name whose first ending byte is a blank; none of any other call, and
 /// none of commands that take no name.
 fn kind_by_blank(call: &Call, kind: &'static str) -> Option<&'static str> {
-    if matches!(kind, "get" | "put" | "close" | "other commands") {
+    if matches!(
+        kind,
+        "close" | "get" | "get record" | "other commands" | "put" | "put record"
+    ) {
         return None;
     }
     let name = call.name();
@@ -96,13 +111,28 @@ fn kind_by_blank(call: &Call, kind: &'static str) -> Option<&'static str> {
     }
 }
 
+/// The kind of a record whose answer tells that it was cut: one that had all bytes of its buffer
+/// moved and was refused all the same.
+fn kind_cut(call: &Call, kind: &'static str, answer: u64) -> Option<&'static str> {
+    let (status, count) = (answer % 256, answer / 256);
+    let length = call.buffer().map_or(0, Buffer::len);
+    let moved_all = status != 1 && count == length as u64;
+    match kind {
+        "get record" if moved_all && count > 0 => Some(kind),
+        "put record" if moved_all && status == 162 => Some(kind),
+        _ => None,
+    }
+}
+
 /// A CIO command by its number, an open by its direction too.
 fn kind_of_cio(cio: &Cio) -> &'static str {
     match (cio.command, cio.direction) {
         (3, 4) => "open 4",
         (3, 8) => "open 8",
         (3, _) => "open, other direction",
+        (5, _) => "get record",
         (7, _) => "get",
+        (9, _) => "put record",
         (11, _) => "put",
         (12, _) => "close",
         (13, _) => "status",
@@ -133,7 +163,13 @@ impl Display for Statistics {
             out,
             "How often each status came for a name ended by a blank:"
         )?;
-        write_rows(&self.by_blank, out)
+        write_rows(&self.by_blank, out)?;
+        writeln!(
+            out,
+            "How often each status came for a get record whose buffer was full before the line's end, \
+             and for a put record of which only its own end of line did not fit:"
+        )?;
+        write_rows(&self.cut, out)
     }
 }
 

@@ -93,7 +93,13 @@ impl World {
             .expect("three bytes of the image")
     }
 
-    /// Where they begin in the image.
+    /// The bytes in use of such a sector, as its last byte says, whether it holds so many or not.
+    pub fn used(&self, sector: u16) -> usize {
+        let [_, _, used] = self.tail(sector);
+        used.into()
+    }
+
+    /// Where the last three bytes begin in the image.
     pub fn tail_start(&self, sector: u16) -> usize {
         self.kind.sector_start(sector) + self.kind.data()
     }
@@ -108,6 +114,11 @@ impl World {
         *self.table[5 * channel..]
             .first_chunk()
             .expect("one of the eight channels")
+    }
+
+    /// The same of any number, if it is a channel's.
+    pub fn record_of(&self, number: u8) -> Option<[u16; 5]> {
+        (number < 8).then(|| self.record(number.into()))
     }
 
     /// Whether all eight channels are open.

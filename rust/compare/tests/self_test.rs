@@ -1,12 +1,14 @@
 //! The comparison tested on the model itself: no difference without a fault, and one with it.
 
+use std::sync::OnceLock;
+
 use compare::generate::Generator;
 use compare::pair::Pair;
 use compare::run::run;
 use compare::shrink::shortest;
 use compare::side::MODEL;
 use compare::statistics::Statistics;
-use compare::step::{Call, Cio, Step};
+use compare::step::{Buffer, Call, Cio, Step};
 use compare::world::World;
 use model::fault::Fault;
 use model::image::Kind;
@@ -51,6 +53,16 @@ fn step_that_shows(fault: Fault) -> Step {
     };
     let mut steps = shortest(&mut pair, 1, *failure).steps;
     steps.pop().expect("the step that shows the difference")
+}
+
+#[test]
+fn a_case_of_a_line_that_is_cut_ends_with_its_get_record() {
+    let step = step_that_shows(Fault::LineEndFits);
+    let is_get_record = |call: &Call| matches!(call, Call::Cio(cio) if cio.command == 5);
+    assert!(
+        matches!(&step, Step::Call { call, .. } if is_get_record(call)),
+        "{step}"
+    );
 }
 
 #[test]
@@ -165,15 +177,24 @@ fn a_seed_gives_the_same_case_again() {
     assert_eq!(steps(), steps());
 }
 
+/// What came in many calls, which are made once for all tests that ask.
+fn of_many_calls() -> &'static Statistics {
+    static STATISTICS: OnceLock<Statistics> = OnceLock::new();
+    STATISTICS.get_or_init(|| {
+        let mut statistics = Statistics::default();
+        let mut pair = Pair::new(("model", MODEL), ("model", MODEL));
+        assert!(run(&mut pair, 1, 60_000, &mut statistics).is_ok());
+        statistics
+    })
+}
+
 #[test]
 fn every_status_comes_for_every_call_that_has_it() {
-    let mut statistics = Statistics::default();
-    let mut pair = Pair::new(("model", MODEL), ("model", MODEL));
-    assert!(run(&mut pair, 1, 60_000, &mut statistics).is_ok());
+    let statistics = of_many_calls();
     for kind in Kind::ALL {
         assert!(statistics.calls_on(kind) > 5_000, "{kind:?}");
     }
-    let expected: [(&str, &[u8]); 21] = [
+    let expected: [(&str, &[u8]); 23] = [
         ("close", &[1, 134, 144, 164, 203, 205, 255]),
         (
             "delete",
@@ -186,6 +207,10 @@ fn every_status_comes_for_every_call_that_has_it() {
             &[1, 129, 130, 134, 144, 160, 165, 200, 203, 205, 255],
         ),
         ("get", &[1, 131, 133, 134, 136, 164, 203, 205, 255]),
+        (
+            "get record",
+            &[1, 131, 133, 134, 136, 137, 164, 203, 205, 255],
+        ),
         ("header", &[1, 144, 203]),
         (
             "lock",
@@ -209,6 +234,10 @@ fn every_status_comes_for_every_call_that_has_it() {
         ("other commands", &[132, 134, 168, 203, 205, 255]),
         (
             "put",
+            &[1, 133, 134, 135, 144, 162, 163, 164, 203, 205, 255],
+        ),
+        (
+            "put record",
             &[1, 133, 134, 135, 144, 162, 163, 164, 203, 205, 255],
         ),
         ("recover", &[1, 144, 163, 165, 170, 201, 202, 203, 205]),
@@ -242,10 +271,49 @@ fn every_status_comes_for_every_call_that_has_it() {
 }
 
 #[test]
-fn every_call_that_takes_a_name_takes_one_that_a_blank_ends() {
+fn lines_are_dropped_and_ends_of_lines_do_not_fit() {
+    let statistics = of_many_calls();
+    assert_eq!(statistics.statuses_cut("get record"), [137, 164]);
+    assert_eq!(statistics.statuses_cut("put record"), [162]);
+    for kind in ["get", "put", "other commands"] {
+        assert!(statistics.statuses_cut(kind).is_empty(), "{kind}");
+    }
+}
+
+#[test]
+fn the_statistics_tell_records_that_were_cut_apart() {
     let mut statistics = Statistics::default();
-    let mut pair = Pair::new(("model", MODEL), ("model", MODEL));
-    assert!(run(&mut pair, 1, 60_000, &mut statistics).is_ok());
+    let mut count = |command, length, status: u64, count: u64| {
+        let cio = Cio {
+            buffer: Buffer::Fill(length, b'x'),
+            ..Cio::new(0, command)
+        };
+        let answer = status + 256 * count;
+        statistics.count(Kind::Raw, false, &Call::Cio(cio).into(), answer);
+    };
+    for (status, bytes) in [(1, 5), (137, 5), (164, 5), (164, 4), (136, 4)] {
+        count(5, 5, status, bytes);
+    }
+    for (status, bytes) in [(1, 5), (162, 5), (162, 4), (163, 0)] {
+        count(9, 5, status, bytes);
+    }
+    count(5, 0, 133, 0);
+    count(9, 0, 162, 0);
+    count(9, 0, 163, 0);
+    count(7, 5, 164, 5);
+    count(11, 5, 162, 5);
+    let printed = statistics.to_string();
+    let (_, cut) = printed
+        .split_once("own end of line did not fit:\n")
+        .unwrap();
+    let words = |line: &str| line.split_whitespace().collect::<Vec<_>>().join(" ");
+    let expected = ["get record 2 | 137: 1 164: 1", "put record 2 | 162: 2"];
+    assert_eq!(cut.lines().map(words).collect::<Vec<_>>(), expected);
+}
+
+#[test]
+fn every_call_that_takes_a_name_takes_one_that_a_blank_ends() {
+    let statistics = of_many_calls();
     for kind in [
         "delete", "format", "lock", "name", "open 4", "open 8", "rename", "status", "unlock",
     ] {
@@ -257,7 +325,15 @@ fn every_call_that_takes_a_name_takes_one_that_a_blank_ends() {
     let first_name = statistics.statuses_by_blank("rename, first name");
     assert!(first_name.contains(&165), "{first_name:?}");
     assert!(!first_name.contains(&1), "{first_name:?}");
-    for kind in ["close", "get", "other commands", "put", "recover"] {
+    for kind in [
+        "close",
+        "get",
+        "get record",
+        "other commands",
+        "put",
+        "put record",
+        "recover",
+    ] {
         assert!(statistics.statuses_by_blank(kind).is_empty(), "{kind}");
     }
 }
@@ -280,6 +356,9 @@ fn the_statistics_tell_names_that_a_blank_ends_apart() {
     count(12, b"D:A ", 1);
     let printed = statistics.to_string();
     let (_, by_blank) = printed.split_once(" name ended by a blank ").unwrap();
+    let (by_blank, _) = by_blank
+        .split_once("How often each status came for a get record")
+        .unwrap();
     let expected = [
         "4",
         "How often each status came for a name ended by a blank:",

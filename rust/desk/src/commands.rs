@@ -8,7 +8,9 @@ use crate::{
     failure::{numbered, numbered_name, numbered_recovery, About, Failure},
     header,
     image_file::{self, ImageFile},
-    syntax, whole_file,
+    syntax,
+    text::{for_disk, for_host},
+    whole_file,
 };
 use hilugsaban::{padded_name, Direction, Disk, Kind, Notch, Status};
 use std::{
@@ -26,6 +28,9 @@ const CHANNEL: u8 = 0;
 /// The options of `new`.
 pub const ATR: &str = "--atr";
 pub const DOUBLE: &str = "--double";
+
+/// The option of `get` and `put`.
+pub const TEXT: &str = "--text";
 
 /// The option of every command that takes an image which is there already.
 pub const PROTECT: &str = "--protect";
@@ -130,7 +135,10 @@ pub fn get(arguments: &Arguments, out: &mut dyn Write) -> Outcome {
     let image = &arguments.operands[0];
     let mut disk = load(image)?;
     let name = name(&arguments.operands[1])?;
-    let bytes = read_file(&mut disk, name)?;
+    let mut bytes = read_file(&mut disk, name)?;
+    if arguments.has(TEXT) {
+        bytes = for_host(bytes).about(name)?;
+    }
     match arguments.operands.get(2) {
         Some(file) if file == "-" => Ok(out.write_all(&bytes)?),
         Some(file) if whole_file::same(Path::new(image), Path::new(file)) => {
@@ -154,12 +162,15 @@ pub fn put(arguments: &Arguments, _: &mut dyn Write) -> Outcome {
         .file_name()
         .unwrap_or(file)
         .to_ascii_uppercase();
-    let bytes = if file == "-" {
+    let mut bytes = if file == "-" {
         read_input(io::stdin().lock())
     } else {
         File::open(file).and_then(read_input)
     }
     .about(file.display())?;
+    if arguments.has(TEXT) {
+        bytes = for_disk(bytes).about(file.display())?;
+    }
     edit(arguments, |disk| {
         let name = name(arguments.operands.get(2).unwrap_or(&own_name))?;
         disk.open(CHANNEL, Direction::Write, name).about(name)?;

@@ -90,7 +90,7 @@ impl Exact<'_> {
         };
         let word = self.lend(|image, table| raw::cio(image, table, &mut request));
         self.answer(word)?;
-        if request.command == command::GET {
+        if matches!(request.command, command::GET | command::GET_RECORD) {
             dump(request.buffer, self.out)?;
         }
         Ok(())

@@ -2,7 +2,7 @@
 
 use crate::{
     arguments::Arguments,
-    commands::{self, ATR, DOUBLE, PROTECT},
+    commands::{self, ATR, DOUBLE, PROTECT, TEXT},
     demo,
     failure::Failure,
     shell,
@@ -66,7 +66,7 @@ pub fn overview() -> String {
     );
     for command in COMMANDS {
         let usage = format!("{} {}", command.name, command.arguments);
-        text += &format!("  desk {usage:<28} {}\n", command.summary);
+        text += &format!("  desk {usage:<31} {}\n", command.summary);
     }
     text += "
 desk COMMAND --help says more about one of them. Names on a disk are like ENDS.DAT, capitals only; blanks
@@ -115,25 +115,30 @@ const COMMANDS: &[Command] = &[
     },
     Command {
         name: "get",
-        arguments: "IMAGE NAME [FILE]",
-        options: &[PROTECT],
+        arguments: "[--text] IMAGE NAME [FILE]",
+        options: &[PROTECT, TEXT],
         least: 2,
         most: 3,
         summary: "Copy a file out of an image",
         details: "FILE is NAME in the current folder if none is given, and must not exist then; - is standard output.\n\
                   A FILE that exists is replaced, but for the image itself.\n\
-                  Nothing is written if the file cannot be read to its end.\n",
+                  Nothing is written if the file cannot be read to its end.\n\
+                  With --text each end of line, $9B, becomes a newline. No other byte changes, so that a last line without\n\
+                  an end gets no newline. A file that has a newline, $0A, in it already is refused.\n",
         run: commands::get,
     },
     Command {
         name: "put",
-        arguments: "IMAGE FILE [NAME]",
-        options: &[PROTECT],
+        arguments: "[--text] IMAGE FILE [NAME]",
+        options: &[PROTECT, TEXT],
         least: 2,
         most: 3,
         summary: "Copy a file into an image",
         details: "NAME is the file's own name in capitals if none is given. FILE - is standard input.\n\
-                  A file of that name on the disk is replaced.\n",
+                  A file of that name on the disk is replaced.\n\
+                  With --text each newline becomes an end of line, $9B. No other byte changes, so that a carriage return\n\
+                  stays and a last line without a newline gets no end. A FILE that has a $9B in it already is refused. So\n\
+                  get --text gives back what put --text took.\n",
         run: commands::put,
     },
     Command {

@@ -15,6 +15,7 @@ mod help;
 mod image_file;
 mod shell;
 mod syntax;
+mod text;
 mod whole_file;
 
 use std::{

@@ -29,13 +29,15 @@ Files; blanks may pad a NAME, in quotes
   open N read|write NAME       open a file on channel N, 0 to 7
   get N COUNT                  read from a channel
   put N TEXT                   write to a channel
+  get-record N COUNT           read a line, and drop what COUNT bytes do not hold
+  put-record N TEXT            write a line
   close N
   status|delete|lock|unlock NAME
   rename OLD NEW
   format                       remove all files; every channel must be closed
   list                         the directory
 
-Calls with every argument as it is; behind a get or a sector read follows the whole BUFFER
+Calls with every argument as it is; behind a get, a get record or a sector read follows the whole BUFFER
   cio CHANNEL COMMAND DIRECTION \"NAME\" BUFFER
                                NAME needs its device and ending byte: \"D:A\\x9B\", \"D:A\\x00\" or \"D:A \"
   sector DEVICE UNIT COMMAND SECTOR BUFFER
@@ -179,8 +181,10 @@ impl<'a> Shell<'a> {
     fn carry_out(&mut self, verb: &str, arguments: &[Word]) -> Understood {
         match (verb, arguments) {
             ("open", [n, direction, name]) => self.open(n, direction, name),
-            ("get", [n, count]) => self.get(n, count),
-            ("put", [n, bytes]) => self.put(n, bytes),
+            ("get", [n, count]) => self.get(command::GET, n, count),
+            ("put", [n, bytes]) => self.put(command::PUT, n, bytes),
+            ("get-record", [n, count]) => self.get(command::GET_RECORD, n, count),
+            ("put-record", [n, bytes]) => self.put(command::PUT_RECORD, n, bytes),
             ("close", [n]) => self.close(n),
             ("status", [name]) => self.on_name(Disk::status, name),
             ("delete", [name]) => self.on_name(Disk::delete, name),
@@ -238,17 +242,18 @@ impl<'a> Shell<'a> {
         self.on_name(|disk, name| disk.open(n, direction, name), name)
     }
 
-    fn get(&mut self, n: &Word, count: &Word) -> Understood {
+    /// A get or a get record, with the bytes that came.
+    fn get(&mut self, command: u8, n: &Word, count: &Word) -> Understood {
         let mut buffer = vec![0; syntax::length(count.text()?)?];
-        let answer = self.disk.cio(value(n)?, command::GET, 0, &[], &mut buffer);
+        let answer = self.disk.cio(value(n)?, command, 0, &[], &mut buffer);
         self.answer(answer)?;
         Ok(dump(&buffer[..answer.count], self.out)?)
     }
 
-    fn put(&mut self, n: &Word, bytes: &Word) -> Understood {
-        let answer = self
-            .disk
-            .cio(value(n)?, command::PUT, 0, &[], &mut bytes.bytes.clone());
+    /// A put or a put record.
+    fn put(&mut self, command: u8, n: &Word, bytes: &Word) -> Understood {
+        let mut buffer = bytes.bytes.clone();
+        let answer = self.disk.cio(value(n)?, command, 0, &[], &mut buffer);
         self.answer(answer)
     }
 

@@ -52,6 +52,7 @@ statuses! {
     BadChannel = 134, "no such channel: they are 0 to 7";
     ReadOnly = 135, "the channel is open for reading only";
     EndOfFile = 136, "the file has ended";
+    TruncatedRecord = 137, "the line did not end within the buffer, and its rest was dropped";
     NoDevice = 138, "no such device: only device $31, unit 1 answers";
     BadRequest = 139, "no such sector or sector command";
     WriteProtected = 144, "the write-protect notch is closed";
@@ -124,7 +125,7 @@ impl From<Status> for io::Error {
 pub struct Answer {
     /// Whether the call did what was asked, or why not.
     pub status: Status,
-    /// Bytes of a get, put or sector call, sectors of a recovery, the place of a name's ending byte, else 0.
+    /// Bytes of a get, put, record or sector call, sectors of a recovery, the place of a name's ending byte, else 0.
     pub count: usize,
 }
 
@@ -161,7 +162,7 @@ impl Answer {
     }
 }
 
-/// A get or put that did not transfer all its bytes.
+/// A get or put that did not transfer all its bytes, or a get record or put record that did not transfer a whole line.
 #[derive(Clone, Copy, PartialEq, Eq, Debug)]
 pub struct Incomplete {
     /// Why it stopped.

@@ -3,15 +3,19 @@
 use crate::{
     answer::{Answer, Incomplete},
     name::lent,
-    raw, Channel, Kind, Notch, Reader, Status, Table, Writer,
+    raw, Channel, Kind, LineWriter, Lines, Notch, Reader, Status, Table, Writer,
 };
 
 /// Numbers of the commands, for [`Disk::cio`] and [`Disk::sector`].
 pub mod command {
     /// Opens a file on a closed channel.
     pub const OPEN: u8 = 3;
+    /// Reads a line from a channel.
+    pub const GET_RECORD: u8 = 5;
     /// Reads from a channel.
     pub const GET: u8 = 7;
+    /// Writes a line to a channel.
+    pub const PUT_RECORD: u8 = 9;
     /// Writes to a channel.
     pub const PUT: u8 = 11;
     /// Closes a channel.
@@ -276,6 +280,60 @@ impl<B: AsMut<[u8]>> Disk<B> {
             .complete()
     }
 
+    /// Reads a line from a reading channel into the buffer, its [`END_OF_LINE`](crate::END_OF_LINE) included, and answers its
+    /// length. The rest of the buffer stays as it was.
+    ///
+    /// A line that does not end within the buffer is [`Incomplete`] with [`Status::TruncatedRecord`]: the buffer is full, and
+    /// the line's rest was read and dropped, so that the channel stands before the next line. So it is where the line has just
+    /// the buffer's length without its end, and where the file ends directly behind it. A file that ends within a line is
+    /// [`Incomplete`] with [`Status::EndOfFile`] and what came. With an empty buffer nothing is read.
+    ///
+    /// ```
+    /// # use hilugsaban::{Direction, Disk, Incomplete, Status};
+    /// # let mut disk = Disk::fresh();
+    /// # disk.open(0, Direction::Write, "A")?;
+    /// # disk.put(0, b"one\x9Bthree\x9Bend")?;
+    /// # disk.close(0)?;
+    /// let mut buffer = *b"....";
+    /// disk.open(0, Direction::Read, "A")?;
+    /// assert_eq!(disk.get_record(0, &mut buffer)?, 4);
+    /// assert_eq!(&buffer, b"one\x9B");
+    /// let cut = Incomplete { status: Status::TruncatedRecord, count: 4 };
+    /// assert_eq!(disk.get_record(0, &mut buffer), Err(cut));
+    /// assert_eq!(&buffer, b"thre");
+    /// let end = Incomplete { status: Status::EndOfFile, count: 3 };
+    /// assert_eq!(disk.get_record(0, &mut buffer), Err(end));
+    /// assert_eq!(&buffer, b"ende");
+    /// # Ok::<(), Box<dyn std::error::Error>>(())
+    /// ```
+    pub fn get_record(&mut self, channel: u8, buffer: &mut [u8]) -> Result<usize, Incomplete> {
+        self.cio(channel, command::GET_RECORD, 0, &[], buffer)
+            .complete()
+    }
+
+    /// Adds a line at the end of a writing channel's file: the bytes through their first
+    /// [`END_OF_LINE`](crate::END_OF_LINE), or where they have none all of them and then one. Answers how many of the bytes were
+    /// written; an end of line that they do not have is not counted.
+    ///
+    /// On a full disk it is [`Incomplete`] with [`Status::DiskFull`], and the bytes that fitted stay; where the count is that of
+    /// all bytes, only the end of line did not fit.
+    ///
+    /// ```
+    /// # use hilugsaban::{Direction, Disk};
+    /// # let mut disk = Disk::fresh();
+    /// disk.open(0, Direction::Write, "A")?;
+    /// assert_eq!(disk.put_record(0, b"one")?, 3);
+    /// assert_eq!(disk.put_record(0, b"two\x9Bthree")?, 4);
+    /// assert_eq!(disk.put_record(0, b"")?, 0);
+    /// assert_eq!(disk.show(0, 4), Some(&b"one\x9Btwo\x9B\x9B"[..]));
+    /// # Ok::<(), Box<dyn std::error::Error>>(())
+    /// ```
+    pub fn put_record(&mut self, channel: u8, bytes: &[u8]) -> Result<usize, Incomplete> {
+        // A copy for the same reason as in `put`.
+        self.cio(channel, command::PUT_RECORD, 0, &[], &mut bytes.to_vec())
+            .complete()
+    }
+
     /// Closes a channel. It is closed also where the answer is [`Status::BadChain`]; a writing channel whose close answers
     /// [`Status::WriteProtected`] stays open.
     pub fn close(&mut self, channel: u8) -> Result<(), Status> {
@@ -476,5 +534,15 @@ impl<B: AsMut<[u8]>> Disk<B> {
     /// An open channel as [`std::io::Write`].
     pub fn writer(&mut self, channel: u8) -> Writer<'_, B> {
         Writer::new(self, channel)
+    }
+
+    /// The lines of a reading channel's file, from where the channel stands.
+    pub fn lines(&mut self, channel: u8) -> Lines<'_, B> {
+        Lines::new(self, channel)
+    }
+
+    /// A writing channel as a writer of lines.
+    pub fn line_writer(&mut self, channel: u8) -> LineWriter<'_, B> {
+        LineWriter::new(self, channel)
     }
 }

@@ -25,6 +25,28 @@
 //! # Ok::<(), Box<dyn std::error::Error>>(())
 //! ```
 //!
+//! # Lines
+//!
+//! A line of text ends with [`END_OF_LINE`], $9B. [`Disk::get_record`] reads one into a buffer and drops what the buffer does
+//! not hold; [`Disk::put_record`] writes one. [`Disk::lines`] hands out lines of any length and loses nothing,
+//! [`Disk::line_writer`] writes lines and cuts none short.
+//!
+//! ```
+//! use hilugsaban::{Direction, Disk, Status};
+//!
+//! let mut disk = Disk::fresh();
+//! disk.open(0, Direction::Write, "HEAT.TXT")?;
+//! for line in ["LANE 4  58.31", "LANE 5  59.02"] {
+//!     disk.line_writer(0).write_line(line.as_bytes())?;
+//! }
+//! disk.close(0)?;
+//!
+//! disk.open(0, Direction::Read, "HEAT.TXT")?;
+//! let lines = disk.lines(0).collect::<Result<Vec<_>, Status>>()?;
+//! assert_eq!(lines[1].bytes, b"LANE 5  59.02");
+//! # Ok::<(), Box<dyn std::error::Error>>(())
+//! ```
+//!
 //! # Names
 //!
 //! A name is a letter and up to seven letters or digits, then optionally a point and up to three letters or digits, capitals
@@ -52,6 +74,7 @@
 mod answer;
 mod disk;
 mod kind;
+mod lines;
 mod name;
 mod notch;
 #[allow(unsafe_code)]
@@ -62,6 +85,7 @@ mod table;
 pub use answer::{Answer, Incomplete, Status};
 pub use disk::{command, Direction, Disk};
 pub use kind::Kind;
+pub use lines::{Line, LineWriter, Lines, END_OF_LINE};
 pub use name::{padded_name, read_name, ReadName};
 pub use notch::Notch;
 pub use stream::{Reader, Writer};

@@ -1,9 +1,6 @@
 //! Names as the library takes them: with a device before and an ending byte behind.
 
-use crate::{answer::Answer, raw, Status};
-
-/// The end of line, one of the three bytes that end a name.
-const END_OF_LINE: u8 = 0x9B;
+use crate::{answer::Answer, lines::END_OF_LINE, raw, Status};
 
 /// The bytes to lend for a name, or for two with a comma between them. An ending byte inside, also a blank that does not pad
 /// it, would cut the name short: such a name is lent up to there and without an ending byte, so that the library refuses it as

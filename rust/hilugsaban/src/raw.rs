@@ -75,7 +75,7 @@ pub struct Request<'a> {
     pub direction: u8,
     /// A name with its device and its ending byte, for the commands that take one.
     pub name: &'a [u8],
-    /// The bytes of a put, or the place for those of a get. Only a get changes it.
+    /// The bytes of a put or put record, or the place for those of a get or get record. Only these two change it.
     pub buffer: &'a mut [u8],
 }
 

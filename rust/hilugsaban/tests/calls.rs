@@ -422,12 +422,22 @@ fn left_by(disk: &Disk<Vec<u8>>) -> (Vec<u8>, Vec<u16>) {
 type Call = fn(&mut Disk<Vec<u8>>) -> Result<(), Status>;
 
 /// Calls of every kind that could change the image of [`busy_disk`], each with its answer where the notch is open.
-const CHANGING_CALLS: [(&str, Call, Result<(), Status>); 17] = [
+const CHANGING_CALLS: [(&str, Call, Result<(), Status>); 19] = [
     ("open", |disk| disk.open(0, Direction::Write, "NEW"), Ok(())),
     ("put", |disk| Ok(disk.put(3, b"more").map(drop)?), Ok(())),
     (
         "put of none",
         |disk| Ok(disk.put(3, b"").map(drop)?),
+        Ok(()),
+    ),
+    (
+        "put record",
+        |disk| Ok(disk.put_record(3, b"more").map(drop)?),
+        Ok(()),
+    ),
+    (
+        "put record of none",
+        |disk| Ok(disk.put_record(3, b"").map(drop)?),
         Ok(()),
     ),
     ("close", |disk| disk.close(3), Ok(())),

@@ -73,6 +73,24 @@ impl Channel {
             Channel::Writing(Writing { slot, last }) => [2, slot, last, 0, 0],
         }
     }
+
+    /// The channel as one to get from: 133, 131.
+    pub(crate) fn reading(&mut self) -> Result<&mut Reading, Status> {
+        match self {
+            Channel::Closed => Err(Status::ChannelClosed),
+            Channel::Writing(_) => Err(Status::WriteOnly),
+            Channel::Reading(reading) => Ok(reading),
+        }
+    }
+
+    /// The channel as one to put to: 133, 135.
+    pub(crate) fn writing(&mut self) -> Result<&mut Writing, Status> {
+        match self {
+            Channel::Closed => Err(Status::ChannelClosed),
+            Channel::Reading(_) => Err(Status::ReadOnly),
+            Channel::Writing(writing) => Ok(writing),
+        }
+    }
 }
 
 /// The lent words as a table: eight records, each of a known kind.

@@ -22,7 +22,7 @@ pub struct Request<'a> {
     pub direction: u8,
     /// With its device and its ending byte.
     pub name: &'a [u8],
-    /// The bytes of a put, or the place for those of a get.
+    /// The bytes of a put or put record, or the place for those of a get or get record.
     pub buffer: &'a mut [u8],
 }
 
@@ -65,7 +65,9 @@ impl<'a> Request<'a> {
 #[derive(Clone, Copy, PartialEq, Eq)]
 enum Command {
     Open,
+    GetRecord,
     Get,
+    PutRecord,
     Put,
     Close,
     Status,
@@ -81,7 +83,9 @@ impl Command {
     fn of(number: u8) -> Result<Command, Status> {
         Ok(match number {
             3 => Command::Open,
+            5 => Command::GetRecord,
             7 => Command::Get,
+            9 => Command::PutRecord,
             11 => Command::Put,
             12 => Command::Close,
             13 => Command::Status,
@@ -95,18 +99,17 @@ impl Command {
         })
     }
 
-    /// All but get, put and close need a closed channel.
+    /// All but those that move bytes and close need a closed channel.
     fn needs_closed(self) -> bool {
-        !matches!(self, Command::Get | Command::Put | Command::Close)
+        use Command::*;
+        !matches!(self, GetRecord | Get | PutRecord | Put | Close)
     }
 
-    /// Put, rename, delete, lock, unlock and format are there to change the disk, an open or a close
-    /// not always.
+    /// Put record, put, rename, delete, lock, unlock and format are there to change the disk, an
+    /// open or a close not always.
     fn changes_disk(self) -> bool {
-        !matches!(
-            self,
-            Command::Open | Command::Get | Command::Close | Command::Status
-        )
+        use Command::*;
+        !matches!(self, Open | GetRecord | Get | Close | Status)
     }
 }
 
@@ -181,7 +184,11 @@ impl<V: Variant> Model<V> {
         let mut channel = before;
         let outcome = match command {
             Command::Open => self.open(disk, table, request, &mut channel),
+            Command::GetRecord => self.get_record_from(disk, &mut channel, request.buffer),
             Command::Get => self.get_from(disk, &mut channel, request.buffer),
+            Command::PutRecord => {
+                self.put_record_to(disk, request.notch, &mut channel, request.buffer)
+            }
             Command::Put => self.put_to(disk, request.notch, &mut channel, request.buffer),
             Command::Close => self.close(disk, request.notch, &mut channel),
             Command::Status => self.status(disk, request.name),
@@ -197,7 +204,13 @@ impl<V: Variant> Model<V> {
 
     /// 132, 168.
     fn command(self, number: u8) -> Result<Command, Status> {
-        if self.wrong(Fault::NoSuchReserved) && number < 3 {
+        let not_served = match number {
+            0..=2 => self.wrong(Fault::NoSuchReserved),
+            5 => self.wrong(Fault::GetRecordNotServed),
+            9 => self.wrong(Fault::PutRecordNotServed),
+            _ => false,
+        };
+        if not_served {
             return Err(Status::WrongCommand);
         }
         Command::of(number)

@@ -1,11 +1,11 @@
 //! A second program for the rules of timing-desk disks.
 //!
 //! The paper *Timing-desk disks: what is served, and the precise rules* says what every call on
-//! a disk image does; of *Later customer requests* P4 adds the write-protect notch, P5 lets a blank
-//! end a name, P8 takes the row 161 out and P13 adds ATR images and double density. This crate does
-//! what they say, in plain Rust, written from them and from nothing else. It shares no code with the
-//! proved library, which makes it of use twice: the two are compared byte for byte on many disks
-//! (package `compare`), and it is the measure for the library's speed.
+//! a disk image does; of *Later customer requests* P1 adds lines of text, P4 the write-protect notch,
+//! P5 lets a blank end a name, P8 takes the row 161 out and P13 adds ATR images and double density.
+//! This crate does what they say, in plain Rust, written from them and from nothing else. It shares no
+//! code with the proved library, which makes it of use twice: the two are compared byte for byte on
+//! many disks (package `compare`), and it is the measure for the library's speed.
 //!
 //! The modules follow the paper's sections:
 //!
@@ -17,6 +17,7 @@
 //! | [`channel`] | The channels |
 //! | [`names`] | Commands: names; request P5: names that end in a blank |
 //! | `commands`, `transfer` | Commands, status numbers and their order |
+//! | `records` | request P1: lines of text |
 //! | `recovery`, `sectors`, `showing` | Recovery, Sectors, Showing |
 //! | `notch` | request P4: the write-protect notch |
 //! | [`status`] | the status numbers |
@@ -53,6 +54,7 @@ pub mod file;
 pub mod image;
 pub mod names;
 mod notch;
+mod records;
 mod recovery;
 mod sectors;
 mod showing;

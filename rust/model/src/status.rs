@@ -18,11 +18,11 @@ pub enum Status {
     WrongCommand = 168,
     /// The command needs a closed channel.
     ChannelOpen = 129,
-    /// A get or put on a closed channel.
+    /// A get or put, or one of a record, on a closed channel.
     ChannelClosed = 133,
-    /// A get on a writing channel.
+    /// A get or get record on a writing channel.
     WriteOnly = 131,
-    /// A put on a reading channel.
+    /// A put or put record on a reading channel.
     ReadOnly = 135,
     /// The notch is closed, and the call could change the image.
     Protected = 144,
@@ -48,8 +48,10 @@ pub enum Status {
     NoSlot = 169,
     /// There is no free sector.
     NoSector = 162,
-    /// The file ended before the buffer was full.
+    /// The file ended before the buffer was full; for a get record, before the line ended too.
     EndOfFile = 136,
+    /// The buffer of a get record was full before the line ended, and the line's rest was dropped.
+    TruncatedRecord = 137,
     /// The deleted file's sectors cannot be taken back.
     NotRecoverable = 202,
     /// A sector call to another device or unit.

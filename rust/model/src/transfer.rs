@@ -8,6 +8,15 @@ use crate::image::on_disk;
 use crate::status::{Outcome, Status, Stop};
 use crate::Model;
 
+/// Where a put goes on: the end of its file.
+pub(crate) struct End {
+    slot: u8,
+    /// Bytes in use of the last sector.
+    used: usize,
+    /// A byte of the map, below which nothing is free.
+    map_byte: usize,
+}
+
 impl<V: Variant> Model<V> {
     /// The bytes in use of a sector that get can enter for the slot.
     pub(crate) fn bytes_in_use<D: Density>(self, disk: &D, slot: u8, sector: u16) -> Option<&[u8]> {
@@ -23,12 +32,11 @@ impl<V: Variant> Model<V> {
         channel: &mut Channel,
         buffer: &mut [u8],
     ) -> Outcome {
-        match channel {
-            Channel::Writing(_) if self.wrong(Fault::NoBytesFirst) && buffer.is_empty() => Ok(0),
-            Channel::Closed => Err(Status::ChannelClosed.into()),
-            Channel::Writing(_) => Err(Status::WriteOnly.into()),
-            Channel::Reading(reading) => self.get(disk, reading, buffer),
+        let writes = matches!(channel, Channel::Writing(_));
+        if self.wrong(Fault::NoBytesFirst) && buffer.is_empty() && writes {
+            return Ok(0);
         }
+        self.get(disk, channel.reading()?, buffer)
     }
 
     /// A put on a channel in any state: 133, 135, 144.
@@ -39,14 +47,11 @@ impl<V: Variant> Model<V> {
         channel: &mut Channel,
         bytes: &[u8],
     ) -> Outcome {
-        let writing = match channel {
-            Channel::Reading(_) if self.wrong(Fault::NoBytesFirst) && bytes.is_empty() => {
-                return Ok(0)
-            }
-            Channel::Closed => return Err(Status::ChannelClosed.into()),
-            Channel::Reading(_) => return Err(Status::ReadOnly.into()),
-            Channel::Writing(writing) => writing,
-        };
+        let reads = matches!(channel, Channel::Reading(_));
+        if self.wrong(Fault::NoBytesFirst) && bytes.is_empty() && reads {
+            return Ok(0);
+        }
+        let writing = channel.writing()?;
         if !(self.wrong(Fault::NotchAfterNoBytes) && bytes.is_empty()) {
             self.require_open_notch(notch)?;
         }
@@ -90,7 +95,11 @@ impl<V: Variant> Model<V> {
 
     /// The slot of a lent record and what is left of its entered sector, which is tested again.
     /// At sector 0 nothing has been entered, and the offset is not looked at.
-    fn reading_place<'a>(self, disk: &'a impl Density, place: &Reading) -> Option<(u8, &'a [u8])> {
+    pub(crate) fn reading_place<'a>(
+        self,
+        disk: &'a impl Density,
+        place: &Reading,
+    ) -> Option<(u8, &'a [u8])> {
         let slot = as_slot(place.slot)?;
         if place.sector == 0 {
             return Some((slot, &[]));
@@ -103,7 +112,7 @@ impl<V: Variant> Model<V> {
     }
 
     /// Enters the next sector: the slot's first, or the link of the last one.
-    fn enter<'a>(
+    pub(crate) fn enter<'a>(
         self,
         disk: &'a impl Density,
         slot: u8,
@@ -133,34 +142,45 @@ impl<V: Variant> Model<V> {
         Ok(used)
     }
 
-    /// Put adds the bytes at the file's end, as many as fit. A sector is given out only when a
-    /// byte is waiting and the last sector is full.
-    fn put<D: Density>(self, disk: &mut D, place: &mut Writing, bytes: &[u8]) -> Outcome {
+    /// Put adds the bytes at the file's end.
+    fn put(self, disk: &mut impl Density, place: &mut Writing, bytes: &[u8]) -> Outcome {
         if bytes.is_empty() {
             return Ok(0);
         }
-        if !self.table_is_good(disk) {
-            return Err(Status::WrongVolumeTable.into());
-        }
-        let (slot, mut used) = self.writing_place(disk, place).ok_or(Status::WrongChain)?;
-        if self.wrong(Fault::FirstPutOnly) && used > 0 {
+        let mut end = self.file_end(disk, place)?;
+        if self.wrong(Fault::FirstPutOnly) && end.used > 0 {
             return Ok(bytes.len());
         }
+        self.add(disk, place, &mut end, bytes)
+    }
+
+    /// Adds as many of the bytes as fit. A sector is given out only when a byte is waiting and the
+    /// last sector is full. Inlined, since as a call of its own it makes a put of one byte slower by
+    /// a third.
+    #[inline(always)]
+    pub(crate) fn add<D: Density>(
+        self,
+        disk: &mut D,
+        place: &mut Writing,
+        end: &mut End,
+        bytes: &[u8],
+    ) -> Outcome {
         let data = self.data_of_put::<D>();
-        let mut map_byte = 0;
         let mut done = 0;
         loop {
-            let run = data.saturating_sub(used).min(bytes.len() - done);
-            let at = D::start(place.last) + used;
+            let run = data.saturating_sub(end.used).min(bytes.len() - done);
+            let at = D::start(place.last) + end.used;
             disk[at..at + run].copy_from_slice(&bytes[done..done + run]);
+            end.used += run;
             if !self.wrong(Fault::ByteCountNotStored) {
-                self.set_used(disk, place.last, (used + run) as u8);
+                self.set_used(disk, place.last, end.used as u8);
             }
             done += run;
-            if done == bytes.len() && !(self.wrong(Fault::SectorTooEarly) && used + run == data) {
+            if done == bytes.len() && !(self.wrong(Fault::SectorTooEarly) && end.used == data) {
                 return Ok(done);
             }
-            let Some(sector) = self.give_out(disk, slot, Some(place.last), map_byte) else {
+            let given = self.give_out(disk, end.slot, Some(place.last), end.map_byte);
+            let Some(sector) = given else {
                 let count = if self.wrong(Fault::NoCountOfPart) {
                     0
                 } else {
@@ -172,8 +192,8 @@ impl<V: Variant> Model<V> {
                 });
             };
             place.last = sector;
-            used = 0;
-            map_byte = usize::from(sector / 8);
+            end.used = 0;
+            end.map_byte = usize::from(sector / 8);
         }
     }
 
@@ -184,6 +204,17 @@ impl<V: Variant> Model<V> {
         } else {
             D::DATA
         }
+    }
+
+    /// What put asks of the disk, once for a call: 163, 164.
+    pub(crate) fn file_end(self, disk: &impl Density, place: &Writing) -> Result<End, Status> {
+        self.require_good_table(disk)?;
+        let (slot, used) = self.writing_place(disk, place).ok_or(Status::WrongChain)?;
+        Ok(End {
+            slot,
+            used,
+            map_byte: 0,
+        })
     }
 
     /// What put asks of a lent record: its slot has the flag `$43` and a count not above 707, its

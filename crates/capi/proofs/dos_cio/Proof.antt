@@ -62,17 +62,17 @@ same-length-5 c = search needs
 returns-3 : tie.Need-returns-3
 returns-3 c = c .before .before .before .before .other-command .ensures _
 
-enum-told : tie.Need-enum-told
-enum-told c = search needs
+enum-known-w : tie.Need-enum-known-w
+enum-known-w c = search needs
 
 get-direct-requires : tie.Need-get-direct-requires
-get-direct-requires c κs = let low = c .before .before .before .before .before .before .before .before .before in (table-length _ (good (low .before)), low .if2 .left)
+get-direct-requires c κs = let low = c .before .before .before .before .before .before .before .before .before .before in (table-length _ (good (low .before)), low .if2 .left)
 
-enum-told-2 : tie.Need-enum-told-2
-enum-told-2 c = search needs
+enum-known-w-2 : tie.Need-enum-known-w-2
+enum-known-w-2 c = search needs
 
 put-direct-requires : tie.Need-put-direct-requires
-put-direct-requires c κs = let low = c .before .before .before .before .before .before .before .before .before in (table-length _ (good (low .before)), low .if2 .left)
+put-direct-requires c κs = let low = c .before .before .before .before .before .before .before .before .before .before in (table-length _ (good (low .before)), low .if2 .left)
 
 same-length-6 : tie.Need-same-length-6
 same-length-6 c = search needs
@@ -85,9 +85,12 @@ same-length-8 c = search needs
 
 returns-4 : tie.Need-returns-4
 returns-4 c =
-    let at = c .before .before .before .before .before .before .before .before .before .before .before .before .before in
-    let told = c .before .before .before .before .get-direct .ensures in
-    let asked = sym (at .command-of .ensures .0) ∙ c .before .before .before .before .before .before .before .before .before .before .before .k .given .1 ∙ ap Moves (c .before .before .before .before .before .before .before .before .enum-told .given .1) in
+    let moved = c .before .before .before .before in
+    let asked-for = moved .before .before .before .before .before in
+    let command = asked-for .before .before .before in
+    let at = command .before .before in
+    let told = moved .get-direct .ensures in
+    let asked = sym (at .command-of .ensures .0) ∙ command .k .given .1 ∙ ap Moves (asked-for .w .given .1) in
     get-ends _ _ _ _ _ (good (at .before .before)) (at .before .if2 .left) asked _ (told .0) _ (told .1) _ (told .2)
 
 same-length-9 : tie.Need-same-length-9
@@ -101,11 +104,14 @@ same-length-11 c = search needs
 
 returns-5 : tie.Need-returns-5
 returns-5 c =
-    let at = c .before .before .before .before .before .before .before .before .before .before .before .before .before in
-    let told = c .before .before .before .before .put-direct .ensures in
-    let asked = sym (at .command-of .ensures .0) ∙ c .before .before .before .before .before .before .before .before .before .before .before .k .given .1 ∙ ap Moves (c .before .before .before .before .before .before .before .before .enum-told2 .given .1) in
+    let moved = c .before .before .before .before in
+    let asked-for = moved .before .before .before .before .before in
+    let command = asked-for .before .before .before in
+    let at = command .before .before in
+    let told = moved .put-direct .ensures in
+    let asked = sym (at .command-of .ensures .0) ∙ command .k .given .1 ∙ ap Moves (asked-for .w2 .given .1) in
     put-ends _ _ _ _ _ (good (at .before .before)) (at .before .if2 .left) asked _ (told .0) _ (told .1) _ (told .2)
 
 pub dos-cio-spec : {M : Type 1} → statement M
 dos-cio-spec =
-    tie.close (tie.spec is-table-requires same-length returns no-channel-requires same-length-2 same-length-3 returns-2 command-of-requires enum-known-k other-command-requires same-length-4 same-length-5 returns-3 enum-told get-direct-requires enum-told-2 put-direct-requires same-length-6 same-length-7 same-length-8 returns-4 same-length-9 same-length-10 same-length-11 returns-5)
+    tie.close (tie.spec is-table-requires same-length returns no-channel-requires same-length-2 same-length-3 returns-2 command-of-requires enum-known-k other-command-requires same-length-4 same-length-5 returns-3 enum-known-w get-direct-requires enum-known-w-2 put-direct-requires same-length-6 same-length-7 same-length-8 returns-4 same-length-9 same-length-10 same-length-11 returns-5)

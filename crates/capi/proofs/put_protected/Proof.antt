@@ -16,7 +16,7 @@ is-channel-requires : tie.Need-is-channel-requires
 is-channel-requires c κs = search needs
 
 returns : tie.Need-returns
-returns c b = not-record _ _ b (sym (c .before .is-channel .ensures) ∙ not-true _ (c .if1 .taken))
+returns c f b = not-record _ _ f b (sym (c .before .is-channel .ensures) ∙ not-true _ (c .if1 .taken))
 
 served-as-requires : tie.Need-served-as-requires
 served-as-requires c κs = search needs
@@ -40,15 +40,15 @@ pack-requires-2 : tie.Need-pack-requires-2
 pack-requires-2 c κs = search needs
 
 returns-2 : tie.Need-returns-2
-returns-2 c b =
+returns-2 c f b =
     let said = c .before .before in
     let at = said .before .before .before in
-    served-closed _ _ b (good (at .before)) (sym (at .served-as .ensures .0) ∙ said .before .enum-told .given .1) (said .state-in .ensures) (c .before .protected-status .ensures) ∙ ap (stays _ _ b) (sym (c .pack .ensures))
+    served-closed _ _ f b (good (at .before)) (sym (at .served-as .ensures .0) ∙ said .before .enum-told .given .1) (said .state-in .ensures) (c .before .protected-status .ensures) ∙ ap (stays _ _ f b) (sym (c .pack .ensures))
 
 returns-3 : tie.Need-returns-3
-returns-3 c b =
+returns-3 c f b =
     let at = c .before .before .before .before in
-    not-served _ _ b (good (at .before)) _ (sym (at .served-as .ensures .0) ∙ c .before .before .v .given .1) ∙ ap (stays _ _ b) (sym (c .pack2 .ensures))
+    not-served _ _ f b (good (at .before)) _ (sym (at .served-as .ensures .0) ∙ c .before .before .v .given .1) ∙ ap (stays _ _ f b) (sym (c .pack2 .ensures))
 
 pub put-protected-spec : {M : Type 1} → statement M
 put-protected-spec =

@@ -5,7 +5,7 @@ use borrow.Author.Needs.{needs}
 use Rattle.layout.proofs.Check.{check-yes}
 use Rattle.layout.specs.Channels.{channel}
 use Rattle.capi.proofs.Laws.{put-few, put-leaves}
-use Rattle.capi.specs.Leaves.{PutLeaves, putLeaves}
+use Rattle.capi.specs.Leaves.{PutLeaves, writeLeaves}
 use Rattle.words.specs.Words.{isChannel}
 use Rattle.words.proofs.Channels.{record-length}
 use Rattle.capi.proofs.put_words.Statement.{statement}
@@ -22,7 +22,7 @@ same-length : tie.Need-same-length
 same-length c = search needs
 
 returns : tie.Need-returns
-unfolding putLeaves
+unfolding writeLeaves
 returns c =
     let e = check-yes {A = PutLeaves} _ _ _ (ap not (sym (c .before .is-channel .ensures)) ∙ c .if1 .taken) in
     (ap (λ o. o .result) (sym e), ap (λ o. o .image) (sym e), ap (λ o. o .channel) (sym e))
@@ -30,8 +30,8 @@ returns c =
 state-in-requires : tie.Need-state-in-requires
 state-in-requires c κs = record-length _ (good (c .before))
 
-write-on-requires : tie.Need-write-on-requires
-write-on-requires c κs = search needs
+write-as-requires : tie.Need-write-as-requires
+write-as-requires c κs = search needs
 
 leave-state-requires : tie.Need-leave-state-requires
 leave-state-requires c κs = record-length _ (good (c .before .before .before .before .before .before .before .before))
@@ -41,7 +41,7 @@ pack-requires c κs =
     let write = c .before .before .before .before .before .before .before in
     let start = write .before .before in
     let passed = start .before .before in
-    put-few _ _ _ _ (good passed) (ap channel (start .state-in .ensures)) _ _ (write .write-on .ensures .0)
+    put-few _ _ _ _ (good passed) (ap channel (start .state-in .ensures)) _ _ _ (write .write-as .ensures .0)
 
 same-length-2 : tie.Need-same-length-2
 same-length-2 c = search needs
@@ -54,9 +54,9 @@ returns-2 c =
     let write = c .before .before .before .before .before .before .before .before in
     let start = write .before .before in
     let passed = start .before .before in
-    put-leaves _ _ _ _ (good passed) (ap channel (start .state-in .ensures)) _ _ (write .write-on .ensures .0)
-    _ (c .pack .ensures) _ (write .write-on .ensures .1) _ (c .before .before .before .leave-state .ensures)
+    put-leaves _ _ _ _ (good passed) (ap channel (start .state-in .ensures)) _ _ _ (write .write-as .ensures .0)
+    _ (c .pack .ensures) _ (write .write-as .ensures .1) _ (c .before .before .before .leave-state .ensures)
 
 pub put-words-spec : {M : Type 1} → statement M
 put-words-spec =
-    tie.close (tie.spec is-channel-requires same-length returns state-in-requires write-on-requires leave-state-requires pack-requires same-length-2 same-length-3 returns-2)
+    tie.close (tie.spec is-channel-requires same-length returns state-in-requires write-as-requires leave-state-requires pack-requires same-length-2 same-length-3 returns-2)

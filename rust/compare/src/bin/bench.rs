@@ -29,7 +29,9 @@ const USAGE: &str = "usage: bench [--scattered] [--repetitions N]";
 
 /// Commands, and the directions of an open.
 const OPEN: u8 = 3;
+const GET_RECORD: u8 = 5;
 const GET: u8 = 7;
+const PUT_RECORD: u8 = 9;
 const PUT: u8 = 11;
 const CLOSE: u8 = 12;
 const STATUS: u8 = 13;
@@ -49,6 +51,16 @@ const OPEN_NOTCH: u8 = 0;
 
 /// The answer of a call that succeeds and counts nothing.
 const SUCCESS: u64 = 1;
+
+/// The status of a get record that drops the rest of a line.
+const TRUNCATED: u64 = 137;
+
+/// The byte that ends a line, the bytes of a line with it, the place that a get record has for a
+/// line, and the bytes of a file of lines.
+const END_OF_LINE: u8 = 0x9b;
+const LINE: usize = 40;
+const LINE_BUFFER: usize = 128;
+const LINES: usize = 10_000;
 
 /// Words of a channel's record.
 const RECORD: usize = 5;
@@ -168,11 +180,16 @@ impl Desk {
         self
     }
 
+    /// A file of these bytes, closed.
+    fn with_bytes(self, name: &[u8], mut bytes: Vec<u8>) -> Desk {
+        self.with(open(WRITE, name))
+            .with(request(PUT).buffer(&mut bytes))
+            .with(request(CLOSE))
+    }
+
     /// A file of that many bytes, closed.
     fn with_file(self, name: &[u8], length: usize) -> Desk {
-        self.with(open(WRITE, name))
-            .with(request(PUT).buffer(&mut vec![0x5a; length]))
-            .with(request(CLOSE))
+        self.with_bytes(name, vec![0x5a; length])
     }
 
     /// A file of all sectors.
@@ -301,6 +318,51 @@ fn transfers(kind: Kind, command: u8, length: usize, thin: bool) -> Line {
     })
 }
 
+/// Get records that go through a file of lines, each of which fits.
+fn get_lines(kind: Kind) -> Line {
+    let mut line = [0x5a; LINE];
+    line[LINE - 1] = END_OF_LINE;
+    let start = Desk::fresh(kind)
+        .with_bytes(&file_name(0), line.repeat(LINES / LINE))
+        .with(open(READ, &file_name(0)));
+    let text = format!("get record of a line of {LINE} bytes");
+    Line::new(text, start, |side, desk| {
+        let mut buffer = Bytes::new(0, LINE_BUFFER);
+        let mut get = request(GET_RECORD).buffer(&mut buffer);
+        time(LINES / LINE, transferred(LINE), || desk.cio(side, &mut get))
+    })
+}
+
+/// Put records that write a file of lines, each with an end of line of its own.
+fn put_lines(kind: Kind) -> Line {
+    let (_, start) = opened(kind, PUT);
+    let text = format!("put record of a line of {LINE} bytes");
+    Line::new(text, start, |side, desk| {
+        let mut buffer = Bytes::new(0x5a, LINE - 1);
+        let mut put = request(PUT_RECORD).buffer(&mut buffer);
+        time(LINES / LINE, transferred(LINE - 1), || {
+            desk.cio(side, &mut put)
+        })
+    })
+}
+
+/// Get records of the one line of a file, of which the buffer holds the first bytes.
+fn drop_line(kind: Kind) -> Line {
+    let start = Desk::fresh(kind)
+        .with_file(&file_name(0), LINES)
+        .with(open(READ, &file_name(0)));
+    let text = format!("get record that drops {} bytes", LINES - LINE);
+    let table = start.table;
+    Line::new(text, start, move |side, desk| {
+        let mut buffer = Bytes::new(0, LINE);
+        let mut get = request(GET_RECORD).buffer(&mut buffer);
+        time(CALLS / 10, TRUNCATED + 256 * LINE as u64, || {
+            desk.table = table;
+            desk.cio(side, &mut get)
+        })
+    })
+}
+
 /// Get of a whole file in every other sector.
 fn get_scattered(kind: Kind) -> Line {
     let length = kind.data() * SCATTERED;
@@ -420,6 +482,7 @@ fn lines(scattered: bool) -> Vec<Line> {
             let lengths = [1, kind.data(), 10_000, whole_disk(kind)];
             lines.extend(lengths.map(|length| transfers(kind, command, length, false)));
         }
+        lines.extend([put_lines(kind), get_lines(kind), drop_line(kind)]);
         lines.push(open_last(kind));
         if kind == raw {
             lines.push(status_of_none());

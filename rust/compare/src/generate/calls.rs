@@ -6,6 +6,7 @@ use model::disk::{is_data_sector, SECTORS};
 use crate::step::{Buffer, Call, Cio};
 use crate::world::World;
 
+use super::records::{GET_RECORD, PUT_RECORD};
 use super::Generator;
 
 /// Kinds of calls.
@@ -14,7 +15,9 @@ enum Kind {
     OpenRead,
     OpenWrite,
     OpenOther,
+    GetRecord,
     Get,
+    PutRecord,
     Put,
     Close,
     Status,
@@ -37,8 +40,10 @@ const KINDS: &[(usize, Kind)] = &[
     (90, Kind::OpenRead),
     (110, Kind::OpenWrite),
     (10, Kind::OpenOther),
-    (140, Kind::Get),
-    (140, Kind::Put),
+    (90, Kind::GetRecord),
+    (130, Kind::Get),
+    (90, Kind::PutRecord),
+    (130, Kind::Put),
     (90, Kind::Close),
     (35, Kind::Status),
     (60, Kind::Rename),
@@ -156,7 +161,11 @@ impl Generator {
         let name = match kind {
             Kind::Rename => self.two_names(world),
             Kind::Format => self.device_alone(world),
-            Kind::Get | Kind::Put | Kind::Close if self.random.chance(900) => Vec::new(),
+            Kind::GetRecord | Kind::Get | Kind::PutRecord | Kind::Put | Kind::Close
+                if self.random.chance(900) =>
+            {
+                Vec::new()
+            }
             Kind::OpenWrite => self.name(world, 400),
             _ => self.name(world, 750),
         };
@@ -165,7 +174,9 @@ impl Generator {
             Kind::Get if self.random.chance(100) => {
                 Buffer::Fill(rest_of_sector(world, channel), self.random.byte())
             }
+            Kind::GetRecord => self.line_buffer(world, channel),
             Kind::Get => self.get_buffer(),
+            Kind::PutRecord => self.line_to_put(world, channel),
             Kind::Put => self.put_buffer(),
             _ if self.random.chance(900) => Buffer::Fill(0, 0),
             _ => self.get_buffer(),
@@ -180,12 +191,12 @@ impl Generator {
 
     /// The command's number, or one that is not listed.
     fn command(&mut self, kind: Kind) -> u8 {
-        const NOT_LISTED: &[u8] = &[
-            0, 1, 2, 4, 5, 6, 8, 9, 10, 14, 31, 34, 37, 38, 39, 40, 253, 255,
-        ];
+        const NOT_LISTED: &[u8] = &[0, 1, 2, 4, 6, 8, 10, 14, 31, 34, 37, 38, 39, 40, 253, 255];
         match kind {
             Kind::OpenRead | Kind::OpenWrite | Kind::OpenOther => 3,
+            Kind::GetRecord => GET_RECORD,
             Kind::Get => 7,
+            Kind::PutRecord => PUT_RECORD,
             Kind::Put => 11,
             Kind::Close => 12,
             Kind::Status => 13,
@@ -201,8 +212,8 @@ impl Generator {
     /// A channel in the state that the command needs, or now and then any.
     fn channel(&mut self, world: &World, kind: Kind) -> u8 {
         let suits = |record: [u16; 5]| match kind {
-            Kind::Get => record[0] == 1,
-            Kind::Put => record[0] == 2,
+            Kind::GetRecord | Kind::Get => record[0] == 1,
+            Kind::PutRecord | Kind::Put => record[0] == 2,
             Kind::Close => record[0] != 0,
             _ => record[0] == 0,
         };
@@ -218,7 +229,7 @@ impl Generator {
         self.random.below(8) as u8
     }
 
-    fn get_buffer(&mut self) -> Buffer {
+    pub(super) fn get_buffer(&mut self) -> Buffer {
         let length = match self.random.below(100) {
             0..50 => self.short_transfer(),
             50..75 => self.random.between(1, 400),
@@ -228,7 +239,7 @@ impl Generator {
         Buffer::Fill(length, self.random.byte())
     }
 
-    fn put_buffer(&mut self) -> Buffer {
+    pub(super) fn put_buffer(&mut self) -> Buffer {
         let length = match self.random.below(100) {
             0..50 => self.short_transfer(),
             50..80 => self.random.between(1, 400),
@@ -237,7 +248,7 @@ impl Generator {
             _ => self.kind.length(),
         };
         if length <= 3000 && self.random.chance(800) {
-            Buffer::Bytes(self.random.bytes(length))
+            Buffer::Bytes(self.file_bytes(length))
         } else {
             Buffer::Fill(length, self.random.byte())
         }
@@ -360,8 +371,8 @@ fn possible(world: &World, kind: Kind) -> Kind {
     let has_deleted = || (0..SLOTS).any(|slot| world.flag(slot) & DELETED != 0);
     let has_file = || world.flag(0) != 0;
     match kind {
-        Kind::Get if !has_channel(1) => Kind::OpenRead,
-        Kind::Put if !has_channel(2) => Kind::OpenWrite,
+        Kind::GetRecord | Kind::Get if !has_channel(1) => Kind::OpenRead,
+        Kind::PutRecord | Kind::Put if !has_channel(2) => Kind::OpenWrite,
         Kind::Recover if !has_deleted() => Kind::Delete,
         Kind::Rename | Kind::Delete | Kind::Lock | Kind::Unlock | Kind::OpenRead if !has_file() => {
             Kind::OpenWrite
@@ -373,17 +384,19 @@ fn possible(world: &World, kind: Kind) -> Kind {
 /// The bytes that a reading channel has not yet handed out of the sector it is on, or of its
 /// slot's first sector before any.
 fn rest_of_sector(world: &World, channel: u8) -> usize {
-    let [_, slot, sector, offset, _] = match channel {
-        0..8 => world.record(channel.into()),
-        _ => return 1,
-    };
+    match reading_place(world, channel) {
+        Some((sector, offset)) => world.used(sector).saturating_sub(offset),
+        None => 1,
+    }
+}
+
+/// The data sector that a reading channel is on, or its slot's first before any, and the bytes of
+/// it already handed out.
+pub(super) fn reading_place(world: &World, channel: u8) -> Option<(u16, usize)> {
+    let [_, slot, sector, offset, _] = world.record_of(channel)?;
     let (sector, offset) = match sector {
         0 if slot < u16::from(SLOTS) => (world.first(slot as u8), 0),
         _ => (sector, offset),
     };
-    if !is_data_sector(sector) {
-        return 1;
-    }
-    let [_, _, used] = world.tail(sector);
-    usize::from(used).saturating_sub(offset.into())
+    is_data_sector(sector).then_some((sector, offset.into()))
 }

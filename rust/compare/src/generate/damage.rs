@@ -3,9 +3,10 @@
 use model::disk::{is_data_sector, DATA_SECTORS};
 use model::image::{Kind, AGREEING, HEADER};
 
-use crate::step::{Call, Step};
+use crate::step::{Buffer, Call, Cio, Step};
 use crate::world::{sector_and_byte, World};
 
+use super::records::PUT_RECORD;
 use super::Generator;
 
 /// The sector of the volume table.
@@ -26,6 +27,7 @@ enum Place {
     FreeCount,
     Flag,
     Count,
+    LongestCount,
     First,
     Name,
     Tail,
@@ -41,6 +43,7 @@ const PLACES: &[(usize, Place)] = &[
     (4, Place::FreeCount),
     (16, Place::Flag),
     (10, Place::Count),
+    (4, Place::LongestCount),
     (8, Place::First),
     (12, Place::Name),
     (28, Place::Tail),
@@ -96,6 +99,7 @@ impl Generator {
             }
             Place::Flag => self.damage_flag(slot),
             Place::Count => self.damage_count(world, slot),
+            Place::LongestCount => self.damage_count_before_line(world, slot),
             Place::First => {
                 let sector = self.sector_of(world, slot);
                 self.poke_word(self.kind.slot_start(slot) + 3, sector);
@@ -224,6 +228,23 @@ impl Generator {
         self.poke_word(self.kind.slot_start(slot) + 1, count);
     }
 
+    /// Gives a file that is being written a count at the limit, and puts a line that may take it
+    /// over that; another file any count.
+    fn damage_count_before_line(&mut self, world: &World, slot: u8) {
+        let Some(channel) = self.writing_channel(world) else {
+            return self.damage_count(world, slot);
+        };
+        let [_, slot, ..] = world.record(channel.into());
+        let count = self.random.pick(&[DATA_SECTORS - 1, DATA_SECTORS]);
+        self.poke_word(self.kind.slot_start(slot as u8) + 1, count);
+        let length = self.near(self.kind.data());
+        let put_record = Cio {
+            buffer: Buffer::Fill(length, b'l'),
+            ..Cio::new(channel, PUT_RECORD)
+        };
+        self.planned.push_back(Call::Cio(put_record).into());
+    }
+
     /// Changes the slot number, the next sector or the count of a sector on a chain.
     fn damage_tail(&mut self, world: &World, slot: u8) {
         let sector = self.sector_of(world, slot);
@@ -256,6 +277,12 @@ impl Generator {
             }
         }
     }
+}
+
+/// The free count of the volume table, no more than a disk has data sectors.
+pub(super) fn free_count(world: &World) -> usize {
+    let at = world.kind.sector_start(TABLE) + FREE_COUNT;
+    world.word(at).min(DATA_SECTORS).into()
 }
 
 /// The ones in the map.

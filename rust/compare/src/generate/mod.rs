@@ -7,6 +7,7 @@
 mod calls;
 mod damage;
 mod names;
+mod records;
 mod set_up;
 
 use std::collections::VecDeque;
@@ -331,14 +332,19 @@ impl Generator {
     }
 }
 
-/// The data sectors that a slot's links lead to, no more than a disk has.
+/// The data sectors of a slot's chain, no more than a disk has.
 fn chain(world: &World, slot: u8) -> Vec<u16> {
+    chain_from(world, world.first(slot))
+}
+
+/// The data sectors that links lead to from one, no more than a disk has.
+fn chain_from(world: &World, first: u16) -> Vec<u16> {
     let data_sector = |sector| is_data_sector(sector).then_some(sector);
     let link = |&sector: &u16| {
         let [high, low, _] = world.tail(sector);
         data_sector(u16::from_be_bytes([high & 3, low]))
     };
-    std::iter::successors(data_sector(world.first(slot)), link)
+    std::iter::successors(data_sector(first), link)
         .take(DATA_SECTORS.into())
         .collect()
 }

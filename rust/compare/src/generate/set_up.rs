@@ -66,7 +66,7 @@ impl Generator {
             let data = self.kind.data();
             let lengths = [0, 1, 60, data, data + 1, 2 * data, 400, 1500];
             let length = self.random.pick(&lengths);
-            let bytes = self.random.bytes(length);
+            let bytes = self.file_bytes(length);
             self.make(&name, Buffer::Bytes(bytes));
         }
         for name in self.pool.clone() {

@@ -8,3 +8,4 @@ mod names;
 mod notch;
 mod pasted;
 mod shell;
+mod text;

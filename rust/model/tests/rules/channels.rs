@@ -51,13 +51,7 @@ fn get_passes_through_empty_sectors() {
 
 #[test]
 fn get_stops_where_it_cannot_enter() {
-    // The second sector: no data sector, another slot's, too many bytes; or none left to enter.
-    for (link, tail, left) in [
-        ([1, 0x68, FULL], [0, 6, FULL], 3),
-        ([0, 5, FULL], [4, 6, FULL], 3),
-        ([0, 5, FULL], [0, 6, FULL + 1], 3),
-        ([0, 5, FULL], [0, 6, FULL], 1),
-    ] {
+    for (link, tail, left) in NOT_ENTERED {
         let mut desk = one_file();
         desk.set_tail(4, link);
         desk.set_tail(5, tail);

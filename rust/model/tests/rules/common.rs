@@ -8,7 +8,9 @@ use crate::KIND;
 
 /// The commands' numbers.
 pub const OPEN: u8 = 3;
+pub const GET_RECORD: u8 = 5;
 pub const GET: u8 = 7;
+pub const PUT_RECORD: u8 = 9;
 pub const PUT: u8 = 11;
 pub const CLOSE: u8 = 12;
 pub const STATUS: u8 = 13;
@@ -41,6 +43,16 @@ pub const WHOLE_DISK: usize = match KIND {
     Kind::Raw | Kind::AtrSingle => 88_375,
     Kind::AtrDouble => 178_871,
 };
+
+/// Ways in which the second sector of a file on sectors 4, 5 and 6 cannot be entered, by the last
+/// three bytes of 4 and of 5 and the sectors left to enter: no data sector, another slot's, too many
+/// bytes, none left.
+pub const NOT_ENTERED: [([u8; 3], [u8; 3], u16); 4] = [
+    ([1, 0x68, FULL], [0, 6, FULL], 3),
+    ([0, 5, FULL], [4, 6, FULL], 3),
+    ([0, 5, FULL], [0, 6, FULL + 1], 3),
+    ([0, 5, FULL], [0, 6, FULL], 1),
+];
 
 /// Where a sector behind the third begins.
 pub const fn sector(number: usize) -> usize {
@@ -104,10 +116,24 @@ impl Desk {
         self.ask(Request::new(channel, PUT).buffer(&mut bytes.to_vec()))
     }
 
+    pub fn put_record(&mut self, channel: u8, bytes: &[u8]) -> Answer {
+        self.ask(Request::new(channel, PUT_RECORD).buffer(&mut bytes.to_vec()))
+    }
+
     /// A get into a buffer of `$EE`.
     pub fn get(&mut self, channel: u8, length: usize) -> (Answer, Vec<u8>) {
+        self.fill(Request::new(channel, GET), length)
+    }
+
+    /// A get record into a buffer of `$EE`.
+    pub fn get_record(&mut self, channel: u8, length: usize) -> (Answer, Vec<u8>) {
+        self.fill(Request::new(channel, GET_RECORD), length)
+    }
+
+    fn fill(&mut self, request: Request, length: usize) -> (Answer, Vec<u8>) {
         let mut buffer = vec![0xee; length];
-        let answer = self.ask(Request::new(channel, GET).buffer(&mut buffer));
+        let request = request.buffer(&mut buffer);
+        let answer = self.ask(request);
         (answer, buffer)
     }
 

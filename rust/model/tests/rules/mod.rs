@@ -6,4 +6,5 @@ mod bench_examples;
 mod blanks;
 mod channels;
 mod notch;
+mod records;
 mod status_table;

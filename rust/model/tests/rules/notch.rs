@@ -79,7 +79,6 @@ fn row_144_stands_behind_the_rows_of_the_channel_and_the_direction() {
     for direction in (0..=255).filter(|direction| ![4, 8].contains(direction)) {
         assert_eq!(desk.refused(0, OPEN, direction, b"E:"), 168);
     }
-    assert_eq!(desk.refused(2, 9, 0, b""), 168, "put record is not served");
     assert_eq!(desk.refused(0, PUT, 0, b""), 133);
     assert_eq!(desk.refused(1, PUT, 0, b""), 135);
     assert_eq!(desk.refused(2, GET, 0, b""), 131);

@@ -77,7 +77,7 @@ fn row_132_168_command() {
         assert_eq!(desk.refused(0, command, 0, b""), 132);
     }
     let listed = [
-        OPEN, GET, PUT, CLOSE, STATUS, RENAME, DELETE, LOCK, UNLOCK, FORMAT,
+        OPEN, GET_RECORD, GET, PUT_RECORD, PUT, CLOSE, STATUS, RENAME, DELETE, LOCK, UNLOCK, FORMAT,
     ];
     for command in (3..=255).filter(|command| !listed.contains(command)) {
         assert_eq!(desk.refused(0, command, 0, b""), 168);

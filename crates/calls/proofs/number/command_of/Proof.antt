@@ -34,11 +34,17 @@ returns-10 : tie.Need-returns-10
 returns-10 c = tells-row (rows .9) (c .match .keys10)
 
 returns-11 : tie.Need-returns-11
-returns-11 c = tells-command (is-low _ (omega arith))
+returns-11 c = tells-row (rows .10) (c .match .keys11)
 
 returns-12 : tie.Need-returns-12
-returns-12 c = tells-command (is-other _ (c .before .match .rest) (omega arith))
+returns-12 c = tells-row (rows .11) (c .match .keys12)
+
+returns-13 : tie.Need-returns-13
+returns-13 c = tells-command (is-low _ (omega arith))
+
+returns-14 : tie.Need-returns-14
+returns-14 c = tells-command (is-other _ (c .before .match .rest) (omega arith))
 
 pub command-of-spec : {M : Type 1} → statement M
 command-of-spec =
-    tie.close (tie.spec returns returns-2 returns-3 returns-4 returns-5 returns-6 returns-7 returns-8 returns-9 returns-10 returns-11 returns-12)
+    tie.close (tie.spec returns returns-2 returns-3 returns-4 returns-5 returns-6 returns-7 returns-8 returns-9 returns-10 returns-11 returns-12 returns-13 returns-14)

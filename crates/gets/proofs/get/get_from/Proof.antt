@@ -1,4 +1,4 @@
-use Rattle.gets.proofs.Getting.{gets-start, gets-on, gets-all, gets-ended, gets-broken, gets-found}
+use Rattle.gets.proofs.Getting.{comes-start, comes-on, comes-all, comes-ended, comes-broken, comes-found}
 use Rattle.gets.proofs.Seeking.{sought-left}
 use Rattle.gets.specs.Entered.{ByteLeft, Gets}
 use Rattle.layout.specs.Image.{geometryOf, view}
@@ -21,7 +21,7 @@ left : (c : tie.After-s Inv-loop μ-loop) → ByteLeft (geometryOf (c .before .b
 left c = sought-left (c .s .given .1) (c .before .before .seek-byte .ensures .1)
 
 loop-holds : tie.Need-loop-holds Inv-loop μ-loop
-loop-holds c = (refl, gets-start _ _ _ (omega arith) (c .before .before .pre .2))
+loop-holds c = (refl, comes-start _ _ _ (omega arith) (c .before .before .pre .2))
 
 seek-byte-requires : tie.Need-seek-byte-requires Inv-loop μ-loop
 seek-byte-requires c κs = (omega arith, omega arith, c .before .loop .inv .1 .entered)
@@ -43,7 +43,7 @@ loop-again c =
     let call = c .before .before .before in
     let found = call .before .before .before in
     let inv = found .before .before .before .before .loop .inv in
-    (omega arith, gets-on (gets-found (inv .1) (omega arith) _ (sym (found .before .before .seek-byte .ensures .0 .0) ∙ found .s .given .1) (left found)) (inv .0) (call .get-here .ensures .1))
+    (omega arith, comes-on (comes-found (inv .1) (omega arith) _ (sym (found .before .before .seek-byte .ensures .0 .0) ∙ found .s .given .1) (left found)) (inv .0) (call .get-here .ensures .1))
 
 enum-known-s-2 : tie.Need-enum-known-s-2 Inv-loop μ-loop
 enum-known-s-2 c = search needs
@@ -57,7 +57,7 @@ same-length c = search needs
 returns : tie.Need-returns Inv-loop μ-loop
 returns c =
     let at = c .before .before .before .before in
-    let e = gets-ended (at .before .before .loop .inv .1) (omega arith) _ (sym (at .seek-byte .ensures .0 .0) ∙ c .before .before .s2 .given .1) in
+    let e = comes-ended (at .before .before .loop .inv .1) (omega arith) _ (sym (at .seek-byte .ensures .0 .0) ∙ c .before .before .s2 .given .1) in
     (c .got .ensures ∙ sym (ap (λ o. o .got) e), sym (ap (λ o. o .buffer) e))
 
 enum-known-s-3 : tie.Need-enum-known-s-3 Inv-loop μ-loop
@@ -72,7 +72,7 @@ same-length-2 c = search needs
 returns-2 : tie.Need-returns-2 Inv-loop μ-loop
 returns-2 c =
     let at = c .before .before .before .before in
-    let e = gets-broken (at .before .before .loop .inv .1) (omega arith) _ (sym (at .seek-byte .ensures .0 .0) ∙ c .before .before .s3 .given .1) in
+    let e = comes-broken (at .before .before .loop .inv .1) (omega arith) _ (sym (at .seek-byte .ensures .0 .0) ∙ c .before .before .s3 .given .1) in
     (c .got2 .ensures ∙ sym (ap (λ o. o .got) e), sym (ap (λ o. o .buffer) e))
 
 got-requires-3 : tie.Need-got-requires-3 Inv-loop μ-loop
@@ -82,7 +82,7 @@ same-length-3 : tie.Need-same-length-3 Inv-loop μ-loop
 same-length-3 c = search needs
 
 returns-3 : tie.Need-returns-3 Inv-loop μ-loop
-returns-3 c = let e = gets-all (c .before .before .loop .inv .1) (omega arith) in
+returns-3 c = let e = comes-all (c .before .before .loop .inv .1) (omega arith) in
     (c .got3 .ensures ∙ sym (ap (λ o. o .got) e), sym (ap (λ o. o .buffer) e))
 
 pub get-from-spec : {M : Type 1} → statement M

@@ -2,7 +2,7 @@ use Rattle.layout.proofs.Image.{lawful}
 use borrow.Author.Needs.{needs}
 use Rattle.gets.proofs.get.get_here.Statement.{statement}
 use Rattle.gets.proofs.get.get_here.Tie as tie
-use Rattle.gets.proofs.Getting.{gets-on, gets-here}
+use Rattle.gets.proofs.Getting.{comes-on, gets-here}
 use native.Mathlib.Omega.{arith}
 use mathlib.Core.Path.{refl}
 
@@ -73,7 +73,7 @@ returns-2 c =
     let left = ran .before .before .before .before .before .before .pre .3 in
     let whole = c .before .before .get-whole .ensures .1 in
     let more = whole .least in
-    (omega arith, gets-on (gets-here _ _ _ left (least .result) (omega arith) (omega arith) _ (ran .get-run .ensures) _ (c .before .before .before .before .if1 .left)) (omega arith) whole)
+    (omega arith, comes-on (gets-here _ _ _ left (least .result) (omega arith) (omega arith) _ (ran .get-run .ensures) _ (c .before .before .before .before .if1 .left)) (omega arith) whole)
 
 pub get-here-spec : {M : Type 1} → statement M
 get-here-spec =

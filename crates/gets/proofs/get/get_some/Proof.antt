@@ -1,4 +1,4 @@
-use Rattle.gets.proofs.Getting.{get-same, gets-at-hand}
+use Rattle.gets.proofs.Getting.{read-same, gets-at-hand}
 use Rattle.gets.proofs.Seeking.{at-hand}
 use Rattle.layout.proofs.Image.{lawful}
 use lib.ListN.{length}
@@ -47,7 +47,7 @@ returns : tie.Need-returns
 returns c =
     let near = c .before .before .before .before .before .before .before .step-in .ensures in
     let start = c .before .before .before .before .before .before .before .before .before .before in
-    let same = get-same _ _ _ _ _ _ _ (start .args .buffer .now) (start .pre .2) (near .1) in
+    let same = read-same _ _ _ _ _ _ _ _ (start .args .buffer .now) (start .pre .2) (near .1) in
     let e = same ∙ gets-at-hand _ _ _ _ _ _ (near .0) (sym (c .before .before .before .before .before .before .at-hand .ensures) ∙ c .before .before .before .before .before .if1 .taken) _ (c .before .before .before .get-run .ensures) in
     (c .got .ensures ∙ ap (λ r. r .got) (sym e), ap (λ r. r .buffer) (sym e))
 
@@ -59,7 +59,7 @@ same-length-2 c = search needs
 
 returns-2 : tie.Need-returns-2
 returns-2 c =
-    let e = get-same _ _ _ _ _ _ _ (c .before .before .before .before .before .before .before .before .before .args .buffer .now) (c .before .before .before .before .before .before .before .before .before .pre .2) (c .before .before .before .before .before .before .step-in .ensures .1) in
+    let e = read-same _ _ _ _ _ _ _ _ (c .before .before .before .before .before .before .before .before .before .args .buffer .now) (c .before .before .before .before .before .before .before .before .before .pre .2) (c .before .before .before .before .before .before .step-in .ensures .1) in
     let from = c .before .before .get-from .ensures in
     (from .0 ∙ ap (λ r. r .got) (sym e), from .1 ∙ ap (λ r. r .buffer) (sym e))
 

@@ -1,4 +1,4 @@
-use Rattle.gets.proofs.Getting.{gets-start}
+use Rattle.gets.proofs.Getting.{comes-start}
 use Rattle.gets.proofs.Seeking.{full-fits, fits-entered}
 use Rattle.layout.proofs.Chain.{fits-data}
 use Rattle.layout.proofs.Data.{data-facts}
@@ -18,7 +18,7 @@ returns : tie.Need-returns
 returns c =
     let p = c .before .before .before .before .before .pre in
     let e = full-fits _ _ _ _ (p .2) in
-    (data-facts _ (fits-data _ _ _ _ e) .pos, gets-start _ _ _ (p .3) (fits-entered _ _ _ _ e))
+    (data-facts _ (fits-data _ _ _ _ e) .pos, comes-start _ _ _ (p .3) (fits-entered _ _ _ _ e))
 
 ahead-requires : tie.Need-ahead-requires
 ahead-requires c κs = fits-data _ _ _ _ (full-fits _ _ _ _ (c .before .before .before .before .before .pre .2))

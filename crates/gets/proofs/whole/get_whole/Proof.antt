@@ -1,4 +1,4 @@
-use Rattle.gets.proofs.Getting.{gets-start, gets-on, gets-full, room-left}
+use Rattle.gets.proofs.Getting.{comes-start, comes-on, gets-full, room-left}
 use Rattle.gets.proofs.Seeking.{full-fits}
 use Rattle.gets.specs.Entered.{Fills, full}
 use Rattle.layout.proofs.Chain.{fits-data}
@@ -29,7 +29,7 @@ entered : (c : tie.Else2 Inv-loop μ-loop) → let a = c .before .before .before
 entered c = sym (c .before .is-full .ensures) ∙ not-false _ (c .if2 .left)
 
 loop-holds : tie.Need-loop-holds Inv-loop μ-loop
-loop-holds c = let p = c .before .before .pre in (refl, (p .2, gets-start _ _ _ (p .3) (p .4)))
+loop-holds c = let p = c .before .before .pre in (refl, (p .2, comes-start _ _ _ (p .3) (p .4)))
 
 sub-if1 : tie.Need-sub-if1 Inv-loop μ-loop
 sub-if1 c = let i = c .before .before .loop .inv in let most = i .1 .1 .most in omega arith
@@ -93,7 +93,7 @@ loop-again c =
     let most = fills .1 .most in
     let within : l .r .count + a .m .density .room ≤ length (a .buffer .now) = omega arith in
     let one = gets-full (omega arith) (fills .1) (fills .0) (room .0) within _ (c .before .before .before .before .before .before .before .before .before .before .before .before .before .next .ensures) (entered (c .before .before .before .before .before .before .before .before .before .before .before)) _ (c .before .before .before .before .before .before .before .before .get-data .ensures) in
-    (omega arith, (behind .0, gets-on one (omega arith) (behind .1)))
+    (omega arith, (behind .0, comes-on one (omega arith) (behind .1)))
 
 same-length-2 : tie.Need-same-length-2 Inv-loop μ-loop
 same-length-2 c = search needs
