@@ -1,9 +1,9 @@
 -- Lines read by their parts in one sector: what the search for $9B finds, and how far a reading comes with it.
 use mathlib.Core.Bool.{Bool, true, false}
-use mathlib.Core.List.{List, [], _∷_, _++_, append-nil}
+use mathlib.Core.List.{List, [], _∷_, append-nil}
 use mathlib.Core.Logic.{_≢_}
 use mathlib.Core.Path.{_≡_, refl, sym, ap, _∙_}
-use Prim.Native.Nat.{ℕ, suc, zero, _+_, _-_, _≤_, _<_}
+use Prim.Native.Nat.{ℕ, suc, _+_, _-_, _≤_, _<_}
 use native.Mathlib.Decide.{ℕ-discrete}
 use native.Mathlib.Nat.{sub-zero}
 use native.Mathlib.Omega.{arith}
@@ -22,7 +22,7 @@ use Rattle.rules.specs.declared.Got.{Got}
 use Rattle.rules.specs.declared.Place.{Place}
 use Rattle.rules.specs.declared.Seek.the-variants.{Ready}
 use Rattle.rules.specs.Get.{Reads, endsReading, place, reads, seek, readFrom, most, dropRest, fill}
-use Rattle.rules.proofs.Steps.{read-step}
+use Rattle.rules.proofs.Steps.{read-full}
 use Rattle.gets.specs.Entered.{Entered, ByteLeft, Comes}
 use Rattle.gets.specs.Lines.{InLine, Turn}
 use Rattle.gets.proofs.Getting.{comes-found, comes-run, comes-through}
@@ -88,13 +88,6 @@ all-part b = rw (sub-zero (length b)) (take-length b)
 all-back : (b c : List ℕ) → putMid 0 (length b - 0) b c ≡ c
 all-back b c = rw (sub-zero (length b), drop-length b) (append-nil c)
 
--- where 137 is told, all bytes wanted have come
-line-full : (g : Geometry) (d : Disk) (s n i : ℕ) (p : Place) (b : List ℕ) → let z = readFrom g Record d s n i p b in z .got .status ≡ truncated → z .got .count ≡ i + n
-unfolding readFrom
-line-full g d s zero i p b = λ _. omega arith
-line-full g d s (suc n) i p b =
-    read-step g d s (λ z. z .got .status ≡ truncated → z .got .count ≡ i + suc n) Record n i p b (λ _ _ _ e. absurd (omega arith)) (λ _ _ _ e. line-full g d s n (i + 1) _ _ e ∙ omega arith) (λ _ _ e. absurd (omega arith)) (λ _ _ e. absurd (omega arith))
-
 -- a get record answers with the line read, or where the buffer filled first, with the rest of it dropped
 module _ (g : Geometry) (d : Disk) (s : ℕ) (p : Place) (b : List ℕ) where
   abbrev line : Reads
@@ -140,7 +133,7 @@ module _ {g : Geometry} {d : Disk} {s : ℕ} {p₀ : Place} {b₀ b : List ℕ} 
     turn-second k t z = record { entered = t; within = omega arith; same = z; first = λ q. absurd (omega arith); second = λ _. (refl, told) }
       where
         full : r .count ≡ length b₀
-        full = ap (λ x. x .count) first-got ∙ line-full g d s (length b₀) 0 p₀ b₀ (sym (ap (λ x. x .status) first-got) ∙ k) ∙ omega arith
+        full = ap (λ x. x .count) first-got ∙ read-full g d s (length b₀) 0 p₀ b₀ (sym (ap (λ x. x .status) first-got) ∙ k) ∙ omega arith
 
         told : readFrom g Record d s (length b₀) 0 p₀ b₀ ≡ reads truncated (length b₀) (r .place) after
         told =

@@ -2,8 +2,9 @@
 use mathlib.Core.Bool.{Bool, true, false}
 use mathlib.Core.List.{List, []}
 use mathlib.Core.Logic.{_≢_}
-use mathlib.Core.Path.{_≡_, refl}
+use mathlib.Core.Path.{_≡_, refl, _∙_}
 use Prim.Native.Nat.{ℕ, suc, zero, _+_}
+use native.Mathlib.Omega.{arith}
 use lib.Dec.{eqb}
 use lib.ListN.{length, set}
 use borrow.Author.Tests.{eqb-true, eqb-false}
@@ -46,6 +47,13 @@ module _ (g : Geometry) (d : Disk) (s : ℕ) (P : Reads → Type 0) where
   fill-record p b cut whole =
       let r = readFrom g Record d s (length b) 0 p b in
       by-if P (eqb (r .got .status) truncated) (dropRest g d s r) r (λ e. cut (eqb-true (r .got .status) truncated e)) (λ e. whole (eqb-false (r .got .status) truncated e))
+
+-- with 137 all bytes wanted have come
+pub read-full : (g : Geometry) (d : Disk) (s n i : ℕ) (p : Place) (b : List ℕ) → let z = readFrom g Record d s n i p b in z .got .status ≡ truncated → z .got .count ≡ i + n
+unfolding readFrom
+read-full g d s zero i p b = λ _. omega arith
+read-full g d s (suc n) i p b =
+    read-step g d s (λ z. z .got .status ≡ truncated → z .got .count ≡ i + suc n) Record n i p b (λ _ _ _ e. absurd (omega arith)) (λ _ _ _ e. read-full g d s n (i + 1) _ _ e ∙ omega arith) (λ _ _ e. absurd (omega arith)) (λ _ _ e. absurd (omega arith))
 
 -- what the rest of the line that is dropped answers
 pub drop-status : (Q : ℕ → Type 0) (g : Geometry) (d : Disk) (s : ℕ) (r : Reads) → let q = readFrom g Record d s (most g (r .got .place)) 0 (r .got .place) [] in (q .got .status ≡ badChain → Q badChain) → (q .got .status ≢ badChain → Q truncated) → Q (dropRest g d s r .got .status)

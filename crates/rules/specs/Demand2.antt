@@ -77,12 +77,12 @@ unfoldable pub putBy : ℕ → Call → Outcome → List ℕ
 putBy i (cioOf c text b) o = if (eqb (c .channel) i) (addedBy (commandOf (c .command)) b (o .effect)) []
 putBy i (recoveryOf protected s) o = []
 
--- what a get or a get record with a buffer of n bytes hands out of r at most: a get record goes through the first $9B
+-- what of r, the bytes yet to come, a get or a get record can hand out: a get record goes through the first $9B
 abbrev pub offered : Form → List ℕ → List ℕ
 offered Characters r = r
 offered Record r = through endOfLine r
 
--- what it leaves of r: a get all but n bytes; a get record what is behind the line's $9B, whether or not the line fitted
+-- what one with a buffer of n bytes leaves of r: a get what is behind n bytes; a get record what is behind the line's $9B, whether or not the line fitted
 abbrev pub leftOf : Form → ℕ → List ℕ → List ℕ
 leftOf Characters n r = drop n r
 leftOf Record n r = if (eqb n 0) r (behind endOfLine r)

@@ -11,7 +11,7 @@ use Rattle.rules.specs.declared.Form.the-variants.{Record}
 use Rattle.rules.specs.declared.Place.{Place}
 use Rattle.layout.specs.Image.{Disk, Geometry}
 use Rattle.layout.specs.Status.{truncated}
-use Rattle.rules.specs.Get.{Reads, readFrom, most, readable}
+use Rattle.rules.specs.Get.{Reads, readFrom, most}
 use Rattle.rules.proofs.Steps.{past, read-step}
 use Rattle.rules.proofs.Reach.{here, reach, readable-most, seek-inside, read-enough}
 use Rattle.theory.specs.LinesBack.{DropsAll}

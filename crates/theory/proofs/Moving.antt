@@ -1,20 +1,17 @@
 -- The bytes that a call moves on a channel: some where it is a put there, or a get, of either form, and none otherwise.
-use mathlib.Core.Bool.{Bool, true, false, _&&_, true≢false}
+use mathlib.Core.Bool.{Bool, true, false, true≢false}
 use mathlib.Core.List.{List, []}
 use mathlib.Core.Logic.{_≢_, _⊎_, inl, inr}
 use mathlib.Core.Path.{_≡_, refl, sym, ap, _∙_}
 use Prim.Native.Nat.{ℕ}
 use native.Mathlib.Decide.{ℕ-discrete}
-use lib.Dec.{eqb}
 use lib.ListN.{length, take}
 use borrow.Author.Tests.{eq-eqb, ne-eqb}
 use Rattle.rules.specs.declared.Block.{Block}
 use Rattle.rules.specs.declared.Form.{Form}
-use Rattle.rules.specs.declared.Form.the-variants.{Characters, Record}
 use Rattle.rules.specs.declared.Transfer.the-variants.{Get, Put}
 use Rattle.rules.specs.declared.Command.{Command}
 use Rattle.rules.specs.declared.Command.the-variants.{Moves, Close, Files, Unlisted}
-use Rattle.layout.specs.Basics.{if}
 use Rattle.rules.specs.Cio.{Outcome, isGet, isPut, commandOf}
 use Rattle.rules.specs.Lists.{Call, cioOf}
 use Rattle.rules.specs.Demand2.{On, addedBy, putBy, gotBy, leftOf, leftBehind, leftBy}

@@ -26,7 +26,7 @@ use Rattle.rules.specs.Put.{PutOutcome, sent, putFrom, puts}
 use Rattle.rules.specs.Cio.{Outcome, ImageOutcome, cioCall}
 use Rattle.rules.specs.Recovery.{ImageRecovered, recoverCall}
 use Rattle.rules.specs.Sectors.{SectorOutcome, ImageSectorOutcome, isWrite, sector, sectorCall}
-use Rattle.rules.specs.Thin.{ImagePutOutcome, readLent, thinGet, writeLent, thinPut}
+use Rattle.rules.specs.Thin.{ImagePutOutcome, readLent, writeLent}
 use Rattle.rules.specs.WriteHeader.{HeaderOutcome, headerCall}
 use Rattle.rules.specs.Lists.{Call, cioOf, recoveryOf, protectedIn, Machine, run, ImageTable, outcomeOf, outcomeOn, images}
 use Rattle.rules.specs.Demand1.{getAnswers}

@@ -25,7 +25,7 @@ use Rattle.rules.specs.Put.{PutOutcome, sent, putFrom, puts}
 use Rattle.rules.specs.Cio.{Outcome, ImageOutcome, commandOf, leaves, cioCall}
 use Rattle.rules.specs.Recovery.{ImageRecovered, recoverCall}
 use Rattle.rules.specs.Sectors.{SectorOutcome, ImageSectorOutcome, sector, sectorCall}
-use Rattle.rules.specs.Thin.{ImagePutOutcome, readLent, thinGet, writeLent, thinPut}
+use Rattle.rules.specs.Thin.{ImagePutOutcome, readLent, writeLent}
 use Rattle.rules.specs.WriteHeader.{HeaderOutcome, headerCall}
 use Rattle.rules.specs.Lists.{Call, cioOf, recoveryOf, outcomeOf}
 use Rattle.rules.specs.Demand1.{partials, Refusal, Unchanged, Refusals}

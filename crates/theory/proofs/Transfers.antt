@@ -31,10 +31,10 @@ use Rattle.rules.specs.Commands.{refused}
 use Rattle.rules.specs.Cio.{Outcome, outcome, ImageOutcome, Asks, leaves, getAt, transfer, command, cio, cioCall}
 use Rattle.rules.specs.Demand1.{Unchanged, Moved, OnlyChannel, OnlyEnd, OnlyEndOn, Transfers}
 use Rattle.rules.specs.Lists.{cioOf, outcomeOf}
-use Rattle.rules.specs.Thin.{ImagePutOutcome, readLent, thinGet, writeLent, thinPut}
+use Rattle.rules.specs.Thin.{ImagePutOutcome, readLent, writeLent}
 use Rattle.rules.proofs.Acts.{asks, GetEnds, get-closed, get-writing, get-broken, get-none, get-some, plainly, Why, plain, barred, no-table, Ends, refuses, reads, reads-none, writes, writes-none, frees, closes, drops}
 use Rattle.rules.proofs.Ends.{get-ends, put-ends, ends-as}
-use Rattle.rules.proofs.Steps.{read-step, fill-record}
+use Rattle.rules.proofs.Steps.{read-step, fill-record, read-full}
 use Rattle.theory.proofs.Adding.{adds-leave, put-leaves}
 use Rattle.theory.proofs.Refusals.{Kept, unchanged}
 use Rattle.theory.proofs.Served.{laws, kept-image, viewed, held-view, unserved-apart}
@@ -86,19 +86,14 @@ module _ (g : Geometry) (d : Disk) where
   get-moved {b = b} (get-none s k o l p) = none b
   get-moved {f = f} {b = b} (get-some s k o l n p) = fill-moved f s (place k o l) b
 
-  -- with 137 all bytes wanted have come
-  read-full : (s n i : ℕ) (p : Place) (b : List ℕ) → let z = readFrom g Record d s n i p b in z .got .status ≡ truncated → z .got .count ≡ i + n
-  unfolding readFrom
-  read-full s zero i p b = λ _. omega arith
-  read-full s (suc n) i p b = read-step g d s (λ z. z .got .status ≡ truncated → z .got .count ≡ i + suc n) Record n i p b (λ _ _ _ e. absurd (omega arith)) (λ q _ _ e. read-full s n (i + 1) _ _ e ∙ omega arith) (λ _ _ e. absurd (omega arith)) (λ _ _ e. absurd (omega arith))
-
+  -- with 137 the buffer is full
   get-full : {st : State} {b : List ℕ} {o : GetOutcome} → GetEnds g d Record b st o → o .answer .status ≡ truncated → o .answer .count ≡ length b
   unfolding gets dropRest
   get-full get-closed = λ e. absurd (omega arith)
   get-full (get-writing s p) = λ e. absurd (omega arith)
   get-full (get-broken s k o l p) = λ e. absurd (omega arith)
   get-full (get-none s k o l p) = λ e. absurd (omega arith)
-  get-full {b = b} (get-some s k o l n p) = fill-record g d s (λ z. z .got .status ≡ truncated → z .got .count ≡ length b) (place k o l) b (λ h _. read-full s (length b) 0 (place k o l) b h ∙ zero-add (length b)) (λ h e. absurd (h e))
+  get-full {b = b} (get-some s k o l n p) = fill-record g d s (λ z. z .got .status ≡ truncated → z .got .count ≡ length b) (place k o l) b (λ h _. read-full g d s (length b) 0 (place k o l) b h ∙ zero-add (length b)) (λ h e. absurd (h e))
 
   cut-full : (t : Table) (c : Block) (text b : List ℕ) → Asks c (Moves (Get Record)) → let o = cio g d t c text b in o .effect .status ≡ truncated → o .effect .count ≡ length b
   unfolding cio command transfer getAt

@@ -1,5 +1,4 @@
 use lib.Dec.{eqb}
-use lib.ListN.{length}
 use borrow.Author.Tests.{ne-eqb}
 use mathlib.Core.Path.{sym, ap}
 use Rattle.rules.proofs.Sent.{sent-some}
