@@ -146,7 +146,8 @@ enum {
  * Lines of text. A line is what stands before an end of line, and that byte.
  *
  * DOS_GET_RECORD fills the buffer through the first end of line, and count is
- * the line's length. A buffer that is full before that answers 137 with the
+ * the line's length. The answer is 1, or 3 for a line that the file ends with, see
+ * "The file's end". A buffer that is full before that answers 137 with the
  * buffer full: the rest of the line was read and dropped, through its end of line
  * or to the file's end, also where the next byte is the end of line or the file
  * ends there. An empty buffer answers 1, and nothing is read.
@@ -159,6 +160,16 @@ enum {
 enum {
     DOS_END_OF_LINE = 0x9B
 };
+
+/*
+ * The file's end. A DOS_GET, a DOS_GET_RECORD or a thin get of at least one byte
+ * that succeeds answers 3 in place of 1 where it leaves its channel at the end of a
+ * sector whose next sector is 0. The next one then finds the file ended: 136 with
+ * count 0. Nothing but that sector's link is looked at; where a sector follows the
+ * answer is 1, also if it is empty and the last. With 137 the file's end is not
+ * told, and no put answers 3. All else is as with 1, and dos_succeeded says yes to
+ * both.
+ */
 
 /* Directions of DOS_OPEN. Other commands do not look at the direction. */
 enum {
@@ -179,10 +190,12 @@ enum {
  * Status numbers. The comment says when a call gives each. Where several apply,
  * dos_cio answers the first in this order: 255, 203, 205, 134, 132 or 168
  * (command), 129, 133, 131 or 135, 168 (direction), 144, 130, 160, 165, 163, 170,
- * 167, 200, 164, 201, 169, 162. 136 and 137 come while bytes are read.
+ * 167, 200, 164, 201, 169, 162. 136 and 137 come while bytes are read. 1 and 3 are
+ * successes, all others are refusals.
  */
 enum {
     DOS_SUCCESS = 1,           /* done */
+    DOS_END_REACHED = 3,       /* get or get record: done, and the file's end was reached */
     DOS_CHANNEL_OPEN = 129,    /* the command needs a closed channel, this one is open */
     DOS_BAD_DEVICE = 130,      /* the name does not begin with `D:` or `D` digit `:` */
     DOS_WRITE_ONLY = 131,      /* get or get record on a writing channel */
@@ -281,9 +294,9 @@ uint64_t dos_show(const uint8_t *image, size_t image_length, uint8_t slot, uint1
 
 /*
  * Thin calls: get and put on one channel that is not in a table. channel has
- * five words. The answer is as for DOS_GET and DOS_PUT of dos_cio; 255 where
- * the length is not 5 or the kind is none, then 203, 205, 133, 131 or 135, 144 (of
- * a put), and so on.
+ * five words. The answer is as for DOS_GET, 3 at the file's end too, and DOS_PUT of
+ * dos_cio; 255 where the length is not 5 or the kind is none, then 203, 205, 133,
+ * 131 or 135, 144 (of a put), and so on.
  */
 uint64_t dos_thin_get(const uint8_t *image, size_t image_length,
                       uint16_t *channel, size_t channel_length,
@@ -318,6 +331,14 @@ static inline uint8_t dos_answer_status(uint64_t answer)
 static inline size_t dos_answer_count(uint64_t answer)
 {
     return (size_t)(answer >> 8);
+}
+
+/* Whether a call did all that it was asked for; dos_show has answers of its own. */
+static inline int dos_succeeded(uint64_t answer)
+{
+    uint8_t status = dos_answer_status(answer);
+
+    return status == DOS_SUCCESS || status == DOS_END_REACHED;
 }
 
 /* Whether dos_show answered yes. */

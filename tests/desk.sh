@@ -2,7 +2,7 @@
 # The script ./desk: it runs the program from any folder, and where it cannot, it says why in a line and exits with 1.
 # What the program refuses with the write-protect notch closed, and that it leaves the image's file alone then.
 # Names padded with blanks, and names that a blank would cut short.
-# Text with newlines here and ends of lines on the disk, and lines in the shell.
+# Text with newlines here and ends of lines on the disk, and in the shell lines and a file's end.
 # And what the script shows while the library is being proved, by tools/progress.sh: on lines as rt prints them, then on rt's own.
 set -u
 root=$(cd "$(dirname "$0")/.." && pwd)
@@ -216,7 +216,7 @@ expect 1 'desk: bytes: byte 13 is $9B, an end of line, and could not be told fro
 expect 1 'desk: PLAIN.TXT: byte 13 is $0A, a newline, and could not be told from an end of line; leave --text out' "$work/desk" get --text MEET.XFD PLAIN.TXT out
 [ ! -e out ] || { echo "a refused file was written"; failed=1; }
 
-# Lines, one longer than its buffer and a last one without an end.
+# Lines, one longer than its buffer and a last one without an end; and the file's end, told with the last line.
 cat >"$work/script" <<'END'
 open 0 read HEAT.TXT
 get-record 0 40
@@ -230,6 +230,10 @@ put-record 0 "LANE 4\x9Bnot written"
 put-record 0 ""
 close 0
 show 2 6
+open 0 read ENDS.TXT
+get 0 14
+get-record 0 40
+get-record 0 40
 END
 cat >"$work/wanted" <<'END'
 1 success; count 0
@@ -248,6 +252,12 @@ cat >"$work/wanted" <<'END'
 1 success; count 0
 yes; offset 640, length 15
   0000  4C 41 4E 45 20 33 9B 4C 41 4E 45 20 34 9B 9B     LANE 3.LANE 4..
+1 success; count 0
+1 success; count 14
+  0000  4C 41 4E 45 20 33 9B 4C 41 4E 45 20 34 9B        LANE 3.LANE 4.
+3 success, and the file's end was reached; count 1
+  0000  9B                                               .
+136 the file has ended; count 0
 changes not saved
 END
 "$work/desk" shell MEET.XFD <"$work/script" | diff "$work/wanted" - || { echo "the shell says otherwise (>)"; failed=1; }

@@ -135,7 +135,7 @@ static void files(void)
     HOLDS(memcmp(out, buffer, 3) == 0 && out[3] == 9 && out[4] == 9);
     EXPECT(by_buffer(7, DOS_CLOSE, NULL, 0), DOS_SUCCESS, 0);
     EXPECT(by_name(7, DOS_OPEN, DOS_READ, "D1:A"), DOS_SUCCESS, 0);
-    EXPECT(by_buffer(7, DOS_GET, out, 3), DOS_SUCCESS, 3);
+    EXPECT(by_buffer(7, DOS_GET, out, 3), DOS_END_REACHED, 3);
     EXPECT(by_buffer(7, DOS_GET, out, 1), DOS_END_OF_FILE, 0);
 
     fresh();
@@ -433,6 +433,76 @@ static void records_full(void)
     EXPECT(put_line("\x9B"), DOS_DISK_FULL, 0);
 }
 
+/* A loader that stops on 3, and what comes behind it. */
+static void loader(void)
+{
+    uint8_t out[2 * DOS_DOUBLE_SECTOR_BYTES];
+    size_t length = kind->data + 3;
+    size_t got = 0;
+    uint64_t answer;
+
+    fresh();
+    make("D:A", length);
+    EXPECT(by_name(0, DOS_OPEN, DOS_READ, "D:A"), DOS_SUCCESS, 0);
+    do {
+        answer = by_buffer(0, DOS_GET, out + got, 1);
+        got += dos_answer_count(answer);
+    } while (dos_succeeded(answer) && dos_answer_status(answer) != DOS_END_REACHED);
+    HOLDS(dos_succeeded(answer) && got == length && memcmp(out, buffer, length) == 0);
+    EXPECT(by_buffer(0, DOS_GET, NULL, 0), DOS_SUCCESS, 0);
+    EXPECT(by_buffer(0, DOS_GET_RECORD, NULL, 0), DOS_SUCCESS, 0);
+    answer = by_buffer(0, DOS_GET, out, 1);
+    EXPECT(answer, DOS_END_OF_FILE, 0);
+    HOLDS(!dos_succeeded(answer) && !dos_succeeded(by_name(0, DOS_STATUS, 0, "D:A")));
+}
+
+/* The file's end as lines tell it: 3 with the last one, but not with 137. */
+static void records_end(void)
+{
+    uint8_t out[3];
+
+    fresh();
+    EXPECT(by_name(0, DOS_OPEN, DOS_WRITE, "D:A"), DOS_SUCCESS, 0);
+    EXPECT(put_line("ab"), DOS_SUCCESS, 2);
+    EXPECT(put_line("cde"), DOS_SUCCESS, 3);
+    EXPECT(put_line("f"), DOS_SUCCESS, 1);
+    read_again();
+    EXPECT(by_buffer(0, DOS_GET_RECORD, out, 3), DOS_SUCCESS, 3);
+    EXPECT(by_buffer(0, DOS_GET_RECORD, out, 3), DOS_TRUNCATED, 3);
+    EXPECT(by_buffer(0, DOS_GET_RECORD, out, 3), DOS_END_REACHED, 2);
+    HOLDS(memcmp(out, "f\x9B" "e", 3) == 0);
+    EXPECT(by_buffer(0, DOS_GET_RECORD, out, 3), DOS_END_OF_FILE, 0);
+    read_again();
+    EXPECT(by_buffer(0, DOS_GET, out, 3), DOS_SUCCESS, 3);
+    EXPECT(by_buffer(0, DOS_GET_RECORD, out, 3), DOS_TRUNCATED, 3);
+    EXPECT(by_buffer(0, DOS_GET_RECORD, out, 1), DOS_TRUNCATED, 1);
+    EXPECT(by_buffer(0, DOS_GET_RECORD, out, 1), DOS_END_OF_FILE, 0);
+}
+
+/* The file's end goes by the link of the sector that a get ends at, whatever is left to enter. */
+static void end_by_link(void)
+{
+    uint16_t reader[DOS_CHANNEL_WORDS] = {DOS_KIND_READING, 0, 0, 0, 9};
+    uint16_t short_of_one[DOS_CHANNEL_WORDS] = {DOS_KIND_READING, 0, 0, 0, 1};
+    uint8_t out[DOS_DOUBLE_SECTOR_BYTES];
+    size_t length = kind->length;
+
+    fresh();
+    make("D:A", kind->data + 3);
+    EXPECT(dos_thin_get(image, length, short_of_one, 5, out, kind->data), DOS_SUCCESS, kind->data);
+    EXPECT(dos_thin_get(image, length, short_of_one, 5, out, 1), DOS_BAD_CHAIN, 0);
+    EXPECT(dos_thin_get(image, length, reader, 5, out, kind->data), DOS_SUCCESS, kind->data);
+    EXPECT(dos_thin_get(image, length, reader, 5, out, 3), DOS_END_REACHED, 3);
+    HOLDS(reader[DOS_WORD_SECTOR] == 5 && reader[DOS_WORD_OFFSET] == 3 && reader[DOS_WORD_LEFT] == 7);
+    EXPECT(dos_thin_get(image, length, reader, 5, out, 1), DOS_END_OF_FILE, 0);
+    EXPECT(dos_thin_get(image, length, reader, 5, NULL, 0), DOS_SUCCESS, 0);
+
+    sector(5)[kind->data + 2] = 0;
+    EXPECT(by_name(0, DOS_OPEN, DOS_READ, "D:A"), DOS_SUCCESS, 0);
+    EXPECT(by_buffer(0, DOS_GET, out, kind->data), DOS_SUCCESS, kind->data);
+    EXPECT(by_buffer(0, DOS_GET, out, 1), DOS_END_OF_FILE, 0);
+}
+
 /* A sector call to the device that answers, with a buffer of that length. */
 static uint64_t on_sector(uint8_t command, uint16_t number, uint8_t *block, size_t length)
 {
@@ -493,7 +563,7 @@ static void thin(void)
     EXPECT(dos_thin_put(image, kind->length, 0, writer, 5, buffer, length), DOS_SUCCESS, length);
     HOLDS(writer[DOS_WORD_KIND] == DOS_KIND_WRITING && writer[DOS_WORD_SECTOR] == 6);
     EXPECT(dos_thin_get(image, kind->length, reader, 5, out, 10), DOS_SUCCESS, 10);
-    EXPECT(dos_thin_get(image, kind->length, reader, 5, out + 10, length - 10), DOS_SUCCESS, length - 10);
+    EXPECT(dos_thin_get(image, kind->length, reader, 5, out + 10, length - 10), DOS_END_REACHED, length - 10);
     HOLDS(memcmp(out, buffer, length) == 0);
     HOLDS(reader[DOS_WORD_SECTOR] == 6 && reader[DOS_WORD_OFFSET] == 50 && reader[DOS_WORD_LEFT] == 0);
     EXPECT(dos_thin_get(image, kind->length, reader, 5, out, 1), DOS_END_OF_FILE, 0);
@@ -664,7 +734,7 @@ static void notch_reads(void)
     busy_disk();
     remember();
     notch = DOS_NOTCH_CLOSED;
-    EXPECT(by_buffer(1, DOS_GET, out, 3), DOS_SUCCESS, 3);
+    EXPECT(by_buffer(1, DOS_GET, out, 3), DOS_END_REACHED, 3);
     EXPECT(by_buffer(1, DOS_GET_RECORD, out, 3), DOS_END_OF_FILE, 0);
     EXPECT(by_buffer(1, DOS_CLOSE, NULL, 0), DOS_SUCCESS, 0);
     EXPECT(by_buffer(1, DOS_CLOSE, NULL, 0), DOS_SUCCESS, 0);
@@ -673,7 +743,7 @@ static void notch_reads(void)
     EXPECT(by_name(0, DOS_STATUS, 0, "E:A"), DOS_BAD_DEVICE, 0);
     EXPECT(on_sector(DOS_SECTOR_READ, 4, out, kind->size), DOS_SUCCESS, kind->size);
     EXPECT(on_sector(DOS_SECTOR_READ, 4, out, kind->size - 1), DOS_BAD_LENGTH, 0);
-    EXPECT(dos_thin_get(image, kind->length, reader, 5, out, 3), DOS_SUCCESS, 3);
+    EXPECT(dos_thin_get(image, kind->length, reader, 5, out, 3), DOS_END_REACHED, 3);
     notch = DOS_NOTCH_OPEN;
     HOLDS(unchanged() && memcmp(out, buffer, 3) == 0);
 }
@@ -808,6 +878,9 @@ int main(void)
         records();
         records_dropped();
         records_full();
+        loader();
+        records_end();
+        end_by_link();
         sectors();
         thin();
         nothing_lent();

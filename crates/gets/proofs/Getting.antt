@@ -20,7 +20,8 @@ use Rattle.rules.specs.declared.Place.{Place}
 use Rattle.rules.specs.declared.Seek.the-variants.{Ready, Ended, Broken}
 use Rattle.rules.specs.Get.{endsReading, filled, place, reads, seek, readFrom, getFrom}
 use Rattle.gets.specs.Entered.{Entered, ByteLeft, atHand, full, Comes, Gets}
-use Rattle.gets.proofs.Seeking.{at-hand, has-byte, seek-ready, left-entered, left-ready, full-used, full-left, seek-full}
+use Rattle.rules.proofs.Steps.{seek-ready}
+use Rattle.gets.proofs.Seeking.{at-hand, has-byte, left-entered, left-ready, full-used, full-left, seek-full}
 
 module _ (g : Geometry) (f : Form) (d : Disk) (s : ℕ) where
   -- some bytes wanted are read by where the search leads alone

@@ -14,8 +14,9 @@ use Rattle.layout.proofs.Data.{data-facts}
 use Rattle.layout.proofs.Chain.{fits-data, fits-used}
 use Rattle.rules.specs.declared.Place.{Place}
 use Rattle.rules.specs.declared.Seek.{Seek}
-use Rattle.rules.specs.declared.Seek.the-variants.{Ready, Ended, Broken}
+use Rattle.rules.specs.declared.Seek.the-variants.{Ready, Broken}
 use Rattle.rules.specs.Get.{place, seekStatus, seekPlace, TellsSeek, nextToEnter, hasByte, ends, seek, readable}
+use Rattle.rules.proofs.Steps.{seek-ready}
 use Rattle.gets.specs.Entered.{Entered, ByteLeft, Sought, atHand, full}
 
 -- an answer that is the enum of the rules has its number and its values
@@ -57,18 +58,8 @@ module _ (g : Geometry) (d : Disk) where
       let low : 1 ≤ k = omega (arith, n) in
       record { low = t .least low; high = t .most; within = ltb-true o (inUse g (d k)) (and-right (not (eqb k 0)) _ e); small = t .small low }
 
-  -- a byte is left; the file ended; no sector is left to enter; the next does not fit; or it is entered
+  -- no sector is left to enter; the next does not fit; or it is entered
   module _ (s k o : ℕ) where
-    pub seek-ready : (l : ℕ) → hasByte g d k o ≡ true → seek g d s k o l ≡ Ready (place k o l)
-    unfolding seek
-    seek-ready zero e = rw e
-    seek-ready (suc l) e = rw (e, seek)
-
-    pub seek-ended : (l : ℕ) → hasByte g d k o ≡ false → ends g d k ≡ true → seek g d s k o l ≡ Ended (place k o l)
-    unfolding seek
-    seek-ended zero e z = rw (e, z)
-    seek-ended (suc l) e z = rw (e, z, seek)
-
     pub seek-out : (l : ℕ) → hasByte g d k o ≡ false → ends g d k ≡ false → l ≡ 0 → seek g d s k o l ≡ Broken (place k o l)
     unfolding seek
     seek-out l e z q = rw (q, e, z)
@@ -90,7 +81,7 @@ module _ (g : Geometry) (d : Disk) where
     left-entered = record { most = t .high; least = λ _. t .low; small = λ _. t .small }
 
     pub left-ready : (s : ℕ) → seek g d s (p .sector) (p .offset) (p .left) ≡ Ready p
-    left-ready s = let l = t .low in seek-ready s (p .sector) (p .offset) (p .left) (has-byte (p .sector) (p .offset) (omega arith) (t .within))
+    left-ready s = let l = t .low in seek-ready g d s (p .sector) (p .offset) (p .left) (has-byte (p .sector) (p .offset) (omega arith) (t .within))
 
   -- a full sector has bytes to read, and is the next that the search finds from the end of one before it
   module _ (s t : ℕ) (u : full g d s t ≡ true) where

@@ -5,16 +5,18 @@ use mathlib.Core.Path.{_≡_}
 use Prim.Native.Nat.{ℕ, _+_, _-_, _≤_, _<_}
 use lib.Dec.{eqb, leb}
 use lib.ListN.{length}
+use Rattle.layout.specs.declared.State.the-variants.{Reading}
 use Rattle.layout.specs.Image.{Disk, Geometry}
 use Rattle.layout.specs.Volume.{dataSector}
 use Rattle.layout.specs.File.{next, inUse, fits}
 use Rattle.rules.specs.declared.Form.{Form}
 use Rattle.rules.specs.declared.Form.the-variants.{Characters}
 use Rattle.rules.specs.declared.Place.{Place}
+use Rattle.rules.specs.declared.Got.{Got}
 use Rattle.gets.specs.declared.whole.Filled.{Filled}
 use Rattle.rules.specs.declared.Seek.{Seek}
 use Rattle.rules.specs.declared.Seek.the-variants.{Ready, Ended, Broken}
-use Rattle.rules.specs.Get.{place, readFrom}
+use Rattle.rules.specs.Get.{place, readFrom, orEndReached}
 
 module _ (g : Geometry) where
   -- an entered sector is on the disk, behind the boot sectors, and holds no more bytes than it can; 0 before any
@@ -39,6 +41,10 @@ module _ (g : Geometry) where
   -- an entered sector holds n bytes from offset o on
   unfoldable pub atHand : Disk → ℕ → ℕ → ℕ → Bool
   atHand d k o n = not (eqb k 0) && leb (o + n) (inUse g (d k))
+
+  -- what bytes of slot s read into the buffer b tell: 3 in place of 1 where they end at the end of a sector whose next sector is 0
+  abbrev pub toldEnd : Disk → ℕ → List ℕ → Got → Got
+  toldEnd d s b r = let p = r .place in record { status = orEndReached g d b (Reading s (p .sector) (p .offset) (p .left)) (r .status); count = r .count; place = p }
 
   -- a sector fits, and has no room left
   unfoldable pub full : Disk → ℕ → ℕ → Bool

@@ -1,6 +1,7 @@
 // Get and get record on one channel: the checks are the same, and what is read differs.
 use super::get::get_some;
 use super::get::readable;
+use super::get::told;
 use super::line::fill_line;
 use layout::State;
 use layout::density::Medium;
@@ -15,18 +16,18 @@ ghost use Prim.Native.Nat.{_<_};
 ghost use lib.ListN.{length};
 ghost use Rattle.layout.specs.Image.{Whole, geometryOf, view};
 ghost use Rattle.layout.specs.declared.State.the-variants.{Reading};
-ghost use Rattle.rules.specs.Get.{advanced, fill, readOn};
-ghost use Rattle.gets.specs.Entered.{Entered};
+ghost use Rattle.rules.specs.Get.{advanced, fill, getAs};
+ghost use Rattle.gets.specs.Entered.{Entered, toldEnd};
 
-// The buffer filled from a place on; or through the line's $9B, and the rest of a line that does not fit dropped.
+// The buffer filled from a place on; or through the line's $9B, and the rest of a line that does not fit dropped. 3 at the file's end.
 fn fill(m: Medium, image: &[u8], form: Form, slot: u16, p: Place, buffer: &mut [u8]) -> Got
     requires { ⌜ Whole m (now image) × (slot < 64) × (0 < length (now buffer)) × Entered (geometryOf m) (view (geometryOf m) (now image)) (p .sector) ⌝ }
     ensures { λ r. ⌜ (let o = fill (geometryOf m) form (view (geometryOf m) (now (image .entry))) slot p (now (buffer .entry)) in
-        (r ≡ o .got) × (now (buffer .exit) ≡ o .buffer)) ⌝ }
+        (r ≡ toldEnd (geometryOf m) (view (geometryOf m) (now (image .entry))) slot (now (buffer .entry)) (o .got)) × (now (buffer .exit) ≡ o .buffer)) ⌝ }
 {
     match form {
         Form::Characters => get_some(m, image, slot, p, buffer),
-        Form::Record => fill_line(m, image, slot, p, buffer),
+        Form::Record => told(m, image, fill_line(m, image, slot, p, buffer)),
     }
 }
 
@@ -56,7 +57,7 @@ fn get_reading(
     buffer: &mut [u8],
 ) -> Advanced
     requires { ⌜ Whole m (now image) ⌝ }
-    ensures { λ r. ⌜ (let o = readOn (geometryOf m) form (view (geometryOf m) (now (image .entry))) (Reading slot (p .sector) (p .offset) (p .left)) (now (buffer .entry)) in
+    ensures { λ r. ⌜ (let o = getAs (geometryOf m) form (view (geometryOf m) (now (image .entry))) (Reading slot (p .sector) (p .offset) (p .left)) (now (buffer .entry)) in
         (r ≡ o .answer) × (now (buffer .exit) ≡ o .buffer)) ⌝ }
 {
     if buffer.len() == 0 {
@@ -73,7 +74,7 @@ fn get_reading(
 // A get of either form on one channel.
 pub fn get_as(m: Medium, image: &[u8], form: Form, st: State, buffer: &mut [u8]) -> Advanced
     requires { ⌜ Whole m (now image) ⌝ }
-    ensures { λ r. ⌜ (let o = readOn (geometryOf m) form (view (geometryOf m) (now (image .entry))) st (now (buffer .entry)) in
+    ensures { λ r. ⌜ (let o = getAs (geometryOf m) form (view (geometryOf m) (now (image .entry))) st (now (buffer .entry)) in
         (r ≡ o .answer) × (now (buffer .exit) ≡ o .buffer)) ⌝ }
 {
     match st {

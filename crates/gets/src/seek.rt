@@ -7,9 +7,10 @@ use layout::density::Medium;
 use rules::Place;
 use rules::Seek;
 ghost use mathlib.Core.Path.{_≡_};
-ghost use Prim.Native.Nat.{_≤_, _<_};
+ghost use Prim.Native.Nat.{ℕ, _≤_, _<_};
 ghost use Rattle.layout.specs.Image.{Whole, geometryOf, view};
-ghost use Rattle.rules.specs.Get.{TellsSeek, nextToEnter, hasByte, ends, seek};
+ghost use Rattle.layout.specs.declared.State.the-variants.{Reading};
+ghost use Rattle.rules.specs.Get.{TellsSeek, nextToEnter, hasByte, ends, seek, atEnd};
 ghost use Rattle.gets.specs.Entered.{Entered, Sought};
 
 // A byte of the entered sector is left.
@@ -32,6 +33,21 @@ fn ends(m: Medium, image: &[u8], sector: u16) -> bool
         return false;
     }
     next(m, image, sector) == 0
+}
+
+// At the end of a sector whose next sector is 0.
+pub fn at_end(m: Medium, image: &[u8], p: Place) -> bool
+    requires { ⌜ Whole m (now image) × (p .sector ≤ 720) × (0 < p .sector → 4 ≤ p .sector) ⌝ }
+    ensures { λ r. ⌜ ((s : ℕ) → r ≡ atEnd (geometryOf m) (view (geometryOf m) (now (image .entry))) (Reading s (p .sector) (p .offset) (p .left))) ⌝ }
+{
+    let k = p.sector;
+    if k == 0 {
+        return false;
+    }
+    if p.offset != in_use(m, image, k) as u16 {
+        return false;
+    }
+    ends(m, image, k)
 }
 
 // The slot's first sector, or after that the link of the last one entered.

@@ -26,8 +26,8 @@ use Rattle.layout.specs.Directory.{flag, count, name, writeFlag, writeName, loc
 use Rattle.layout.specs.File.{clean, cleanFree, chain, delete, restore}
 use Rattle.layout.specs.Channels.{stateOf, withState, openAt, anyOpen, held, newSlot}
 use Rattle.layout.specs.Names.{nameByte, readName, oldName, newName, legal}
-use Rattle.layout.specs.Status.{success, channelClosed, writeOnly, writeProtected, badTable, badChain}
-use Rattle.rules.specs.Get.{Reads, place, readable, fill, gets, GetOutcome, getKeeps}
+use Rattle.layout.specs.Status.{success, succeeds, channelClosed, writeOnly, writeProtected, badTable, badChain}
+use Rattle.rules.specs.Get.{Reads, place, readable, fill, gets, GetOutcome, getKeeps, orEndReached, tellsEnd}
 use Rattle.rules.specs.Put.{Adds, sent, reported, writable, putFrom, puts, PutOutcome, putKeeps}
 use Rattle.rules.specs.Commands.{Effect, effect, refused, couldChange, done, rewritten, made}
 use Rattle.rules.specs.Cio.{Outcome, outcome, commandOf, Asks}
@@ -35,9 +35,9 @@ use Rattle.rules.specs.Recovery.{recoverable, recovered}
 use Rattle.rules.specs.Demand1.{putAnswers, answers, recoveryAnswers}
 use Rattle.rules.specs.Lists.{Call, cioOf, recoveryOf, protectedIn, recovering}
 
--- a refusal's number that tells nothing of the notch, the table or a chain: neither 1 nor 144, 163 or 164
+-- a refusal's number that tells nothing of the notch, the table or a chain: no success, and neither 144, 163 nor 164
 abbrev pub plainly : ℕ → Bool
-plainly n = not (eqb n 1 || eqb n 144 || eqb n 163 || eqb n 164)
+plainly n = not (succeeds n || eqb n 144 || eqb n 163 || eqb n 164)
 
 -- what is asked of a call: its command, or a recovery
 pub data Kind : Type 0 where
@@ -79,7 +79,7 @@ module _ (g : Geometry) (d : Disk) where
     get-writing : (s p : ℕ) → GetEnds f b (Writing s p) (getKeeps writeOnly (Writing s p) b)
     get-broken : (s k o l : ℕ) → readable g d s k o ≡ false → GetEnds f b (Reading s k o l) (getKeeps badChain (Reading s k o l) b)
     get-none : (s k o l : ℕ) → length b ≡ 0 → GetEnds f b (Reading s k o l) (getKeeps success (Reading s k o l) b)
-    get-some : (s k o l : ℕ) → length b ≢ 0 → readable g d s k o ≡ true → GetEnds f b (Reading s k o l) (gets s (fill g f d s (place k o l) b))
+    get-some : (s k o l : ℕ) → length b ≢ 0 → readable g d s k o ≡ true → GetEnds f b (Reading s k o l) (tellsEnd g d b (gets s (fill g f d s (place k o l) b)))
 
   -- why a put on one channel is refused: 144, 163 and 164 tell which test failed
   pub data PutWhy (protected : Bool) : State → ℕ → Type 0 where
@@ -95,9 +95,11 @@ module _ (g : Geometry) (d : Disk) where
     put-some : (s p : ℕ) → protected ≡ false → length b ≢ 0 → good (d 360) ≡ true → writable g d s p ≡ true → PutEnds protected b (Writing s p) (puts s (putFrom g b d s p 0))
 
 -- the outcome of bytes read and the effect of bytes added on channel i, for slot s
-abbrev pub gotten : Disk → Table → ℕ → ℕ → Reads → Outcome
-gotten d t i s r = let p = r .got .place in
-    outcome (record { status = r .got .status; count = r .got .count; disk = d; table = withState t i (Reading s (p .sector) (p .offset) (p .left)); given = []; took = Nothing }) (r .buffer)
+abbrev pub gotten : Geometry → Disk → Table → ℕ → ℕ → List ℕ → Reads → Outcome
+gotten g d t i s b r =
+    let p = r .got .place in
+    let st = Reading s (p .sector) (p .offset) (p .left) in
+    outcome (record { status = orEndReached g d b st (r .got .status); count = r .got .count; disk = d; table = withState t i st; given = []; took = Nothing }) (r .buffer)
 
 abbrev pub added : Table → ℕ → ℕ → Form → List ℕ → Adds → Effect
 added t i s f b a = record { status = a .added .status; count = reported f b (a .added .count); disk = a .disk; table = withState t i (Writing s (a .added .last)); given = a .given; took = Nothing }
@@ -206,7 +208,7 @@ module _ (g : Geometry) (d : Disk) (t : Table) where
     -- a refusal: all is as it was
     refuses : {k : Kind} {c : Call} (n : ℕ) → Why (protectedIn c) k n → member n (answersTo c) ≡ true → Ends k c (outcome (refused n d t) (bufferOf c))
     -- get and get record, of some bytes and of none
-    reads : {f : Form} {c : Block} {text b : List ℕ} (s k o l : ℕ) → Gets f c b s k o l → Ends (asks (Moves (Get f))) (cioOf c text b) (gotten d t (c .channel) s (fill g f d s (place k o l) b))
+    reads : {f : Form} {c : Block} {text b : List ℕ} (s k o l : ℕ) → Gets f c b s k o l → Ends (asks (Moves (Get f))) (cioOf c text b) (gotten g d t (c .channel) s b (fill g f d s (place k o l) b))
     reads-none : {f : Form} {c : Block} {text b : List ℕ} → On c (Moves (Get f)) → length b ≡ 0 → Ends (asks (Moves (Get f))) (cioOf c text b) (outcome (done g d t d t) b)
     -- put and put record, of some bytes; a put of none
     writes : {f : Form} {c : Block} {text b : List ℕ} (s p : ℕ) → Puts f c b s p → Ends (asks (Moves (Put f))) (cioOf c text b) (outcome (added t (c .channel) s f b (putFrom g (sent f b) d s p 0)) b)

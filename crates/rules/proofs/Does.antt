@@ -18,7 +18,7 @@ use Rattle.layout.specs.Directory.{count, writeFlag, is43}
 use Rattle.layout.specs.Channels.{stateOf, withState}
 use Rattle.layout.specs.Status.{writeProtected}
 use Rattle.layout.proofs.Check.{check-yes, check-no}
-use Rattle.rules.specs.Get.{readOn}
+use Rattle.rules.specs.Get.{getAs}
 use Rattle.rules.specs.Put.{sent, putOn}
 use Rattle.rules.specs.Commands.{Effect, refused, done, putAt, openRead, closeState, closeCall}
 use Rattle.rules.specs.Cio.{Outcome, getAt, transfer, command, cio}
@@ -36,9 +36,9 @@ module _ (g : Geometry) (d : Disk) (t : Table) (c : Block) (text b : List ℕ) w
   does-effect o = ap (λ (r : Outcome). r .effect) (does o)
 
   -- a get and a put of either form, on a channel in this state
-  pub does-get : {f : Form} → On c (Moves (Get f)) → {st : State} → stateOf t (c .channel) ≡ st → cio g d t c text b ≡ getLeaves d t (c .channel) (readOn g f d st b)
+  pub does-get : {f : Form} → On c (Moves (Get f)) → {st : State} → stateOf t (c .channel) ≡ st → cio g d t c text b ≡ getLeaves d t (c .channel) (getAs g f d st b)
   unfolding command transfer getAt
-  does-get {f = f} o e = does o ∙ ap (λ st. getLeaves d t (c .channel) (readOn g f d st b)) e
+  does-get {f = f} o e = does o ∙ ap (λ st. getLeaves d t (c .channel) (getAs g f d st b)) e
 
   pub does-put : {f : Form} → On c (Moves (Put f)) → {st : State} → stateOf t (c .channel) ≡ st → cio g d t c text b .effect ≡ putLeaves t (c .channel) f b (putOn g d (c .protected) st (sent f b))
   unfolding command transfer putAt

@@ -33,12 +33,12 @@ use Rattle.layout.specs.Directory.{flag, writeFlag, locked, found, find, is43}
 use Rattle.layout.specs.File.{clean}
 use Rattle.layout.specs.Channels.{stateOf, withState, held}
 use Rattle.layout.specs.Names.{wellFormed, nameAt, readAs, body, ending, comma, wholeEnd, named, readName, oldName, newName, readDevice}
-use Rattle.layout.specs.Status.{success, badChannel, badCommand, channelOpen, writeOnly, channelClosed, writeProtected, notServed, badDevice, badUnit, badName, badTable, notFound, fileLocked, fileHeld, badChain, truncated}
+use Rattle.layout.specs.Status.{success, Fails, badChannel, badCommand, channelOpen, writeOnly, channelClosed, writeProtected, notServed, badDevice, badUnit, badName, badTable, notFound, fileLocked, fileHeld, badChain, truncated}
 use Rattle.layout.proofs.Check.{check-yes, check-no, by-check, by-name, by-found}
 use Rattle.layout.proofs.Channels.{with-id}
 use Rattle.layout.proofs.Logic.{and-left, and-right}
 use Rattle.layout.proofs.Members.{member-head, member-tail}
-use Rattle.rules.specs.Get.{readable, gets, GetOutcome, readOn}
+use Rattle.rules.specs.Get.{readable, gets, GetOutcome, readOn, orEndReached, tellsEnd, getAs}
 use Rattle.rules.specs.Put.{sent, reported, writable, putFrom, puts, PutOutcome, putKeeps, putOn}
 use Rattle.rules.specs.Commands.{Effect, refused, couldChange, done, putAt, passing, sought, target, mayChange, mayFree, both, aimed, openRead, openFound, openNew, openTarget, openWrite, openCall, closeState, closeCall, statusCall, renameAt, renameCall, deleteAt, deleteCall, flagAt, lockCall, unlockCall, formatCall, fileCommand, onClosed}
 use Rattle.rules.specs.Cio.{Outcome, outcome, getAt, commandOf, Asks, transfer, command, cio}
@@ -49,14 +49,14 @@ use Rattle.rules.proofs.Sent.{none-reported}
 use Rattle.rules.proofs.Told.{by-passing, may-change, may-free}
 use Rattle.rules.proofs.Acts.{plainly, Kind, asks, recovers, kindOf, On, Told, bytes, GetEnds, get-closed, get-writing, get-broken, get-none, get-some, PutWhy, put-plain, put-barred, put-no-table, put-broken, PutEnds, put-refuses, put-none, put-some, Why, plain, barred, no-table, no-chain, no-read, no-write, Ready, Aimed, Flags, Closes, Ends, refuses, reads, reads-none, writes, writes-none, frees, closes, drops, opens, rewrites, makes, tells, renames, deletes, locks, unlocks, formats, restores}
 
--- a refusal is not 1
-pub why-not-one : {g : Geometry} {d : Disk} {t : Table} {protected : Bool} {k : Kind} {n : ℕ} → Why g d t protected k n → n ≢ success
-why-not-one (plain n p) e = true≢false (sym p ∙ ap plainly e)
-why-not-one (barred q) e = omega arith
-why-not-one (no-table h) e = omega arith
-why-not-one (no-chain w s f h) e = omega arith
-why-not-one (no-read i s k o l z q h) e = omega arith
-why-not-one (no-write i s p z q h) e = omega arith
+-- a refusal is no success
+pub why-fails : {g : Geometry} {d : Disk} {t : Table} {protected : Bool} {k : Kind} {n : ℕ} → Why g d t protected k n → Fails n
+why-fails (plain n p) e = true≢false (sym (rw e at p))
+why-fails (barred q) e = true≢false (sym e)
+why-fails (no-table h) e = true≢false (sym e)
+why-fails (no-chain w s f h) e = true≢false (sym e)
+why-fails (no-read i s k o l z q h) e = true≢false (sym e)
+why-fails (no-write i s p z q h) e = true≢false (sym e)
 
 -- a name's refusal is 130, 160 or 165: what holds of these holds of it
 module _ (Q : ℕ → Type 0) (p : Q badDevice) (q : Q badUnit) (r : Q badName) where
@@ -97,14 +97,17 @@ both-first (Is v w) (Is v' w') x y e = e
 
 -- a get and a put on one channel, of either form
 module _ (g : Geometry) (d : Disk) where
-  pub get-ends : (f : Form) (st : State) (b : List ℕ) → GetEnds g d f b st (readOn g f d st b)
-  unfolding readOn
+  pub get-ends : (f : Form) (st : State) (b : List ℕ) → GetEnds g d f b st (getAs g f d st b)
+  unfolding readOn orEndReached getAs
   get-ends f Closed b = get-closed
   get-ends f (Writing s p) b = get-writing s p
   get-ends f (Reading s k o l) b =
-      by-check (GetEnds g d f b (Reading s k o l)) _ _ _ (λ n. get-none s k o l (eqb-true (length b) 0 n)) λ n.
-      by-check (GetEnds g d f b (Reading s k o l)) _ _ _ (λ r. get-broken s k o l (not-true (readable g d s k o) r)) λ r.
+      by-check P _ _ _ (λ n. rw n (get-none s k o l (eqb-true (length b) 0 n))) λ n.
+      by-check P _ _ _ (λ r. get-broken s k o l (not-true (readable g d s k o) r)) λ r.
       get-some s k o l (eqb-false (length b) 0 n) (not-false (readable g d s k o) r)
+    where
+      P : GetOutcome → Type 0
+      P z = GetEnds g d f b (Reading s k o l) (tellsEnd g d b z)
 
   pub put-ends : (protected : Bool) (st : State) (b : List ℕ) → PutEnds g d protected b st (putOn g d protected st b)
   unfolding putOn member

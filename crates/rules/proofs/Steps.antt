@@ -9,15 +9,16 @@ use lib.Dec.{eqb}
 use lib.ListN.{length, set}
 use borrow.Author.Tests.{eqb-true, eqb-false}
 use Rattle.rules.specs.declared.Form.{Form}
-use Rattle.rules.specs.declared.Form.the-variants.{Record}
+use Rattle.rules.specs.declared.Form.the-variants.{Characters, Record}
 use Rattle.rules.specs.declared.Place.{Place}
 use Rattle.rules.specs.declared.Seek.{Seek}
 use Rattle.rules.specs.declared.Seek.the-variants.{Ready, Ended, Broken}
 use Rattle.layout.specs.Basics.{if}
 use Rattle.layout.specs.Image.{Disk, Geometry}
+use Rattle.layout.specs.File.{fits}
 use Rattle.layout.specs.Status.{success, endOfFile, badChain, truncated}
 use Rattle.layout.proofs.Check.{by-if}
-use Rattle.rules.specs.Get.{Reads, endsReading, place, reads, seek, readFrom, most, dropRest, fill}
+use Rattle.rules.specs.Get.{Reads, endsReading, place, reads, seekPlace, nextToEnter, hasByte, ends, seek, readFrom, most, dropRest, fill}
 
 -- the place behind a byte
 abbrev pub past : Place → Place
@@ -47,6 +48,53 @@ module _ (g : Geometry) (d : Disk) (s : ℕ) (P : Reads → Type 0) where
   fill-record p b cut whole =
       let r = readFrom g Record d s (length b) 0 p b in
       by-if P (eqb (r .got .status) truncated) (dropRest g d s r) r (λ e. cut (eqb-true (r .got .status) truncated e)) (λ e. whole (eqb-false (r .got .status) truncated e))
+
+-- where the search for a byte is over at once: a byte is left in the entered sector, or the file ended
+module _ (g : Geometry) (d : Disk) (s k o : ℕ) where
+  pub seek-ready : (l : ℕ) → hasByte g d k o ≡ true → seek g d s k o l ≡ Ready (place k o l)
+  unfolding seek
+  seek-ready zero e = rw e
+  seek-ready (suc l) e = rw (e, seek)
+
+  pub seek-ended : (l : ℕ) → hasByte g d k o ≡ false → ends g d k ≡ true → seek g d s k o l ≡ Ended (place k o l)
+  unfolding seek
+  seek-ended zero e z = rw (e, z)
+  seek-ended (suc l) e z = rw (e, z, seek)
+
+-- where reading ends: what holds of the sector that it begins at and of every sector that fits holds of the sector that it ends at
+module _ (g : Geometry) (d : Disk) (s : ℕ) (P : ℕ → Type 0) (entered : (k : ℕ) → fits g (d k) s k ≡ true → P k) where
+  seek-place : (l k o : ℕ) → P k → P (seekPlace (seek g d s k o l) .sector)
+  unfolding seek
+  seek-place zero k o t = go (hasByte g d k o) (ends g d k)
+    where
+      go : (a b : Bool) → P (seekPlace (if a (Ready (place k o 0)) (if b (Ended (place k o 0)) (Broken (place k o 0)))) .sector)
+      go true b = t
+      go false true = t
+      go false false = t
+  seek-place (suc l) k o t = go (hasByte g d k o) refl (ends g d k) refl (fits g (d n) s n) refl (seek-place l n 0)
+    where
+      n : ℕ
+      n = nextToEnter g d s k
+
+      go : (a : Bool) → hasByte g d k o ≡ a → (b : Bool) → ends g d k ≡ b → (c : Bool) → fits g (d n) s n ≡ c → (P n → P (seekPlace (seek g d s n 0 l) .sector)) → P (seekPlace (seek g d s k o (suc l)) .sector)
+      go true h b e c f more = rw (h, seek) t
+      go false h true e c f more = rw (h, e, seek) t
+      go false h false e true f more = rw (h, e, f, seek) (more (entered n f))
+      go false h false e false f more = rw (h, e, f, seek) t
+
+  sought-place : {q : Seek} (p : Place) → P (p .sector) → seek g d s (p .sector) (p .offset) (p .left) ≡ q → P (seekPlace q .sector)
+  sought-place p t e = rw (← e) (seek-place (p .left) (p .sector) (p .offset) t)
+
+  read-place : (f : Form) (n i : ℕ) (p : Place) (b : List ℕ) → P (p .sector) → P (readFrom g f d s n i p b .got .place .sector)
+  unfolding readFrom
+  read-place f zero i p b t = t
+  read-place f (suc n) i p b t =
+      read-step g d s (λ z. P (z .got .place .sector)) f n i p b (λ _ e _. sought-place p t e) (λ _ e _. read-place f n (i + 1) _ _ (sought-place p t e)) (λ _ e. sought-place p t e) (λ _ e. sought-place p t e)
+
+  pub fill-place : (f : Form) (p : Place) (b : List ℕ) → P (p .sector) → P (fill g f d s p b .got .place .sector)
+  unfolding fill dropRest
+  fill-place Characters p b t = read-place Characters (length b) 0 p b t
+  fill-place Record p b t = let r = read-place Record (length b) 0 p b t in fill-record g d s (λ z. P (z .got .place .sector)) p b (λ _. read-place Record _ 0 _ [] r) (λ _. r)
 
 -- with 137 all bytes wanted have come
 pub read-full : (g : Geometry) (d : Disk) (s n i : ℕ) (p : Place) (b : List ℕ) → let z = readFrom g Record d s n i p b in z .got .status ≡ truncated → z .got .count ≡ i + n

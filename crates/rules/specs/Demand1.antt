@@ -23,7 +23,7 @@ use Rattle.layout.specs.Basics.{check, member}
 use Rattle.layout.specs.Image.{Disk, atrSingle, atrDouble, geometryOf, view}
 use Rattle.layout.specs.Header.{agrees, servedAs}
 use Rattle.layout.specs.Channels.{stateOf, withState}
-use Rattle.layout.specs.Status.{success, badImage, badHeader, badChannel, notServed, channelOpen, channelClosed, writeOnly, readOnly, writeProtected, badDevice, badUnit, badName, badTable, notFound, fileLocked, fileHeld, badChain, nameTaken, noSlot, diskFull, endOfFile, truncated, lostChain, noDevice, badRequest, badLength}
+use Rattle.layout.specs.Status.{success, endReached, Fails, badImage, badHeader, badChannel, notServed, channelOpen, channelClosed, writeOnly, readOnly, writeProtected, badDevice, badUnit, badName, badTable, notFound, fileLocked, fileHeld, badChain, nameTaken, noSlot, diskFull, endOfFile, truncated, lostChain, noDevice, badRequest, badLength}
 use Rattle.rules.specs.Cio.{ImageOutcome, commandOf, Asks, cioCall}
 use Rattle.rules.specs.Recovery.{recoverCall}
 use Rattle.rules.specs.Sectors.{sectorCall}
@@ -48,7 +48,7 @@ openAnswers direction =
 
 -- those of a get
 abbrev pub getAnswers : List ℕ
-getAnswers = success ∷ channelClosed ∷ writeOnly ∷ endOfFile ∷ badChain ∷ []
+getAnswers = success ∷ endReached ∷ channelClosed ∷ writeOnly ∷ endOfFile ∷ badChain ∷ []
 
 -- those of a get record
 abbrev pub getRecordAnswers : List ℕ
@@ -150,7 +150,7 @@ partials (Unlisted status) = []
 
 -- the answer to this command is a refusal, and no partial transfer
 pub record Refusal (command : Command) (status : ℕ) : Type 0 where
-  pub failed : status ≢ success
+  pub failed : Fails status
   pub whole : member status (partials command) ≡ false
 
 -- no bytes reported; image, channels and buffer are what went in
@@ -163,13 +163,13 @@ pub record Unchanged (l : List ℕ) (t : Table) (b : List ℕ) (o : ImageOutcome
 -- a refused call reports no bytes and changes nothing
 pub record Refusals : Type 0 where
   pub calls : (l : List ℕ) (t : Table) (c : Block) (text b : List ℕ) → let o = cioCall l t c text b in Refusal (commandOf (c .command)) (o .answer .status) → Unchanged l t b o
-  pub recoveries : (l : List ℕ) (protected : Bool) (s : ℕ) → let r = recoverCall l protected s in r .reply .status ≢ success → (r .reply .count ≡ 0) × (r .image ≡ l)
-  pub sectors : (l : List ℕ) (protected : Bool) (device unit command k : ℕ) (b : List ℕ) → let o = sectorCall l protected device unit command k b in o .reply .status ≢ success → (o .reply .count ≡ 0) × (o .image ≡ l) × (o .buffer ≡ b)
+  pub recoveries : (l : List ℕ) (protected : Bool) (s : ℕ) → let r = recoverCall l protected s in Fails (r .reply .status) → (r .reply .count ≡ 0) × (r .image ≡ l)
+  pub sectors : (l : List ℕ) (protected : Bool) (device unit command k : ℕ) (b : List ℕ) → let o = sectorCall l protected device unit command k b in Fails (o .reply .status) → (o .reply .count ≡ 0) × (o .image ≡ l) × (o .buffer ≡ b)
   -- a thin call on one lent record
   pub thinGets : (l : List ℕ) (c : Channel) (b : List ℕ) → let o = thinGet l c b in Refusal (Moves (Get Characters)) (o .answer .status) → (o .answer .count ≡ 0) × (o .answer .state ≡ c .state) × (o .buffer ≡ b)
   pub thinPuts : (l : List ℕ) (protected : Bool) (c : Channel) (b : List ℕ) → let o = thinPut l protected c b in Refusal (Moves (Put Characters)) (o .answer .status) → (o .answer .count ≡ 0) × (o .answer .state ≡ c .state) × (o .image ≡ l)
   -- the header's writer
-  pub headers : (l : List ℕ) (protected : Bool) → let o = headerCall l protected in o .reply .status ≢ success → (o .reply .count ≡ 0) × (o .image ≡ l)
+  pub headers : (l : List ℕ) (protected : Bool) → let o = headerCall l protected in Fails (o .reply .status) → (o .reply .count ≡ 0) × (o .image ≡ l)
 
 -- of n bytes reported and the buffer after them: no more than were lent, and the rest of the buffer is left
 pub record Moved (n : ℕ) (after b : List ℕ) : Type 0 where

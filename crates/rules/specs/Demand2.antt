@@ -22,10 +22,11 @@ use Rattle.rules.specs.declared.Command.the-variants.{Moves, Close, File
 use Rattle.layout.specs.Basics.{if, member, through, behind}
 use Rattle.layout.specs.Image.{Disk, Geometry, geometryOf}
 use Rattle.layout.specs.Directory.{flag, count, find}
-use Rattle.layout.specs.File.{endOfLine, file}
+use Rattle.layout.specs.File.{endOfLine, next, inUse, chain, file}
 use Rattle.layout.specs.Channels.{stateOf, openAt}
 use Rattle.layout.specs.Names.{nameByte, readName, oldName}
-use Rattle.layout.specs.Status.{success, writeProtected, diskFull, endOfFile, truncated}
+use Rattle.layout.specs.Status.{success, endReached, succeeds, Succeeds, Fails, writeProtected, diskFull, endOfFile, truncated}
+use Rattle.rules.specs.Get.{orEndReached}
 use Rattle.rules.specs.Put.{sent}
 use Rattle.rules.specs.Commands.{Effect}
 use Rattle.rules.specs.Cio.{Outcome, isGet, commandOf, Asks}
@@ -63,10 +64,10 @@ ReadsFrom t i s = (k : ℕ) × (o : ℕ) × (l : ℕ) × (stateOf t i ≡ Readin
 abbrev pub AtStart : System → ℕ → ℕ → Type 0
 AtStart y i s = stateOf (y .table) i ≡ Reading s 0 0 (count (y .disk) s)
 
--- the bytes of b that a command with this effect added to a file: a put as many as it reports, also with 162; a put record those and its own $9B, where it answered 1 and b has none
+-- the bytes of b that a command with this effect added to a file: a put as many as it reports, also with 162; a put record those and its own $9B, where it succeeded and b has none
 abbrev pub addedBy : Command → List ℕ → Effect → List ℕ
 addedBy (Moves (Put Characters)) b e = take (e .count) b
-addedBy (Moves (Put Record)) b e = take (e .count) b ++ if (eqb (e .status) success && not (member endOfLine b)) (endOfLine ∷ []) []
+addedBy (Moves (Put Record)) b e = take (e .count) b ++ if (succeeds (e .status) && not (member endOfLine b)) (endOfLine ∷ []) []
 addedBy (Moves (Get f)) b e = []
 addedBy Close b e = []
 addedBy (Files k) b e = []
@@ -87,7 +88,7 @@ abbrev pub leftOf : Form → ℕ → List ℕ → List ℕ
 leftOf Characters n r = drop n r
 leftOf Record n r = if (eqb n 0) r (behind endOfLine r)
 
--- what it answers: a get 1 where the buffer was filled, otherwise 136; a get record 1 where the $9B came, 137 where the buffer filled first, otherwise 136, and 1 for an empty buffer
+-- what it answers, 3 aside: a get 1 where the buffer was filled, otherwise 136; a get record 1 where the $9B came, 137 where the buffer filled first, otherwise 136, and 1 for an empty buffer
 abbrev pub answered : Form → ℕ → List ℕ → ℕ
 answered Characters n r = if (leb n (length r)) success endOfFile
 answered Record n r = if (eqb n 0 || member endOfLine (take n r)) success (if (leb n (length r)) truncated endOfFile)
@@ -130,26 +131,26 @@ unfoldable pub gotBytes : ℕ → List Event → List ℕ
 gotBytes i [] = []
 gotBytes i (e ∷ es) = gotBy i (e .call) (e .outcome) ++ gotBytes i es
 
--- a put or a put record with this effect added no byte: a put that reports none; a put record that reports none and does not answer 1
+-- a put or a put record with this effect added no byte: a put that reports none; a put record that reports none and does not succeed
 abbrev pub AddsNone : Form → Effect → Type 0
 AddsNone Characters e = e .count ≡ 0
-AddsNone Record e = (e .count ≡ 0) × (e .status ≢ success)
+AddsNone Record e = (e .count ≡ 0) × Fails (e .status)
 
--- a CIO call that found y and had the effect e leaves the file of slot s: it is no open for output and no delete of that file that answers 1, no put and no put record on a channel that writes it but one that added no byte, and no format that answers 1
+-- a CIO call that found y and had the effect e leaves the file of slot s: it is no open for output and no delete of that file that succeeds, no put and no put record on a channel that writes it but one that added no byte, and no format that succeeds
 pub record LeavesFile (s : ℕ) (c : Block) (text : List ℕ) (y : System) (e : Effect) : Type 0 where
-  pub opens : Asks c (Files Open) → c .direction ≡ 8 → Finds (y .disk) (readName text) s → e .status ≢ success
-  pub deletes : Asks c (Files Delete) → Finds (y .disk) (readName text) s → e .status ≢ success
+  pub opens : Asks c (Files Open) → c .direction ≡ 8 → Finds (y .disk) (readName text) s → Fails (e .status)
+  pub deletes : Asks c (Files Delete) → Finds (y .disk) (readName text) s → Fails (e .status)
   pub puts : (f : Form) → Asks c (Moves (Put f)) → WritesTo (y .table) (c .channel) s → AddsNone f e
-  pub formats : Asks c (Files Format) → e .status ≢ success
+  pub formats : Asks c (Files Format) → Fails (e .status)
 
 -- a call leaves the file of slot s; a recovery leaves every file
 abbrev pub Leaves : ℕ → Call → System → Effect → Type 0
 Leaves s (cioOf c text b) y e = LeavesFile s c text y e
 Leaves s (recoveryOf protected x) y e = Unit {0}
 
--- a call leaves the name of that file: it is no rename of it that answers 1
+-- a call leaves the name of that file: it is no rename of it that succeeds
 abbrev pub LeavesName : ℕ → Call → System → Effect → Type 0
-LeavesName s (cioOf c text b) y e = Asks c (Files Rename) → Finds (y .disk) (oldName text) s → e .status ≢ success
+LeavesName s (cioOf c text b) y e = Asks c (Files Rename) → Finds (y .disk) (oldName text) s → Fails (e .status)
 LeavesName s (recoveryOf protected x) y e = Unit {0}
 
 -- every call of the list leaves the file
@@ -162,19 +163,27 @@ abbrev pub LeavesNameAll : ℕ → List Event → Type 0
 LeavesNameAll s [] = Unit {0}
 LeavesNameAll s (e ∷ es) = LeavesName s (e .call) (e .found) (e .outcome .effect) × LeavesNameAll s es
 
--- a get or a get record hands out what is left of a file: as much as its buffer b takes or as there is, through the line's $9B for a get record, behind which the buffer is as it was
-pub record HandsOut (f : Form) (left b : List ℕ) (o : Outcome) : Type 0 where
-  pub status : o .effect .status ≡ answered f (length b) left
-  pub count : o .effect .count ≡ min (length b) (length (offered f left))
-  pub buffer : o .buffer ≡ take (length b) (offered f left) ++ drop (length (offered f left)) b
-
 module _ (g : Geometry) where
+  -- the file's last sector is not empty
+  abbrev pub LastInUse : Disk → ℕ → Type 0
+  LastInUse d s = (k : ℕ) → member k (chain g d s) ≡ true → next g (d k) ≡ 0 → inUse g (d k) ≢ 0
+
+  -- a get or a get record from channel i on disk d hands out what is left of a file: as much as its buffer b takes or as there is, through the line's $9B for a get record, behind which the buffer is as it was
+  pub record HandsOut (d : Disk) (i : ℕ) (sure : Type 0) (f : Form) (left b : List ℕ) (o : Outcome) : Type 0 where
+    pub status : o .effect .status ≡ orEndReached g d b (stateOf (o .effect .table) i) (answered f (length b) left)
+    pub count : o .effect .count ≡ min (length b) (length (offered f left))
+    pub buffer : o .buffer ≡ take (length b) (offered f left) ++ drop (length (offered f left)) b
+    -- with 3 nothing is left
+    pub last : o .effect .status ≡ endReached → leftOf f (length b) left ≡ []
+    -- and where `sure` holds it answers 3 wherever it succeeds, of at least one byte, and nothing is left
+    pub reached : sure → length b ≢ 0 → answered f (length b) left ≡ success → leftOf f (length b) left ≡ [] → o .effect .status ≡ endReached
+
   -- the file of slot s on disk d stands on disk e, in the same slot, with the same bytes
   pub record FileKept (d e : Disk) (s : ℕ) : Type 0 where
     pub stands : Stands e s
     pub bytes : file g e s ≡ file g d s
 
-  -- an open for output that answered 1: its channel writes a slot that is found under the name read, and whose file is empty
+  -- an open for output that succeeded: its channel writes a slot that is found under the name read, and whose file is empty
   pub record OpenedOutput (c : Block) (text : List ℕ) (y : System) : Type 0 where
     pub small : c .channel < 8
     pub slot : ℕ
@@ -190,16 +199,16 @@ module _ (g : Geometry) where
     pub stands : Stands (z .disk) s
     pub named : SameName (z .disk) s (y .disk) s
     pub bytes : file g (z .disk) s ≡ file g (y .disk) s ++ put
-    -- a put or a put record on the channel then answers 1 or 162, or 144; where it answers 1 it puts all that it was lent, or the line
+    -- a put or a put record on the channel then answers 1 or 162, or 144; where it succeeds it puts all that it was lent, or the line
     pub next : (f : Form) (c : Block) (text b : List ℕ) → On i (Moves (Put f)) (cioOf c text b) → PutAnswers (c .protected) (does (cioOf c text b) .effect .status)
-    pub whole : (f : Form) (c : Block) (text b : List ℕ) → On i (Moves (Put f)) (cioOf c text b) → let o = does (cioOf c text b) in o .effect .status ≡ success → putBy i (cioOf c text b) o ≡ sent f b
+    pub whole : (f : Form) (c : Block) (text b : List ℕ) → On i (Moves (Put f)) (cioOf c text b) → let o = does (cioOf c text b) in Succeeds (o .effect .status) → putBy i (cioOf c text b) o ≡ sent f b
     -- a close of the channel with the notch closed answers 144
     pub stays : (c : Call) → On i Close c → protectedIn c ≡ true → does c .effect .status ≡ writeProtected
     -- with the notch open it answers 1 and leaves file and name, and the file is no longer open for output
     pub closes : (c : Call) → On i Close c → protectedIn c ≡ false → let e = does c .effect in (e .status ≡ success) × FileKept (z .disk) (e .disk) s × SameName (e .disk) s (y .disk) s × (flag (e .disk) s ≡ 0x42)
 
-  -- channel i of y was before the first byte of slot s, whose file has these bytes; a list of calls that did not close it got these from it, left these, and left z; none of it was cut off where `uncut` holds
-  pub record Delivered (bytes : List ℕ) (y z : System) (does : Call → Outcome) (i s : ℕ) (got left : List ℕ) (uncut : Type 0) : Type 0 where
+  -- channel i of y was before the first byte of slot s, whose file has these bytes; a list of calls that did not close it got these from it, left these, and left z; its last sector is not empty where `sure` holds, and none of it was cut off where `uncut` does
+  pub record Delivered (bytes : List ℕ) (sure : Type 0) (y z : System) (does : Call → Outcome) (i s : ℕ) (got left : List ℕ) (uncut : Type 0) : Type 0 where
     -- the channel still reads it
     pub reads : ReadsFrom (z .table) i s
     -- file and name are what they were
@@ -210,7 +219,7 @@ module _ (g : Geometry) where
     pub ends : bytes ≡ passed ++ left
     pub begins : uncut → passed ≡ got
     -- a get or a get record from the channel then hands out of what is left
-    pub next : (f : Form) (c : Block) (text b : List ℕ) → On i (Moves (Get f)) (cioOf c text b) → HandsOut f left b (does (cioOf c text b))
+    pub next : (f : Form) (c : Block) (text b : List ℕ) → On i (Moves (Get f)) (cioOf c text b) → HandsOut (z .disk) i sure f left b (does (cioOf c text b))
     -- and where it answers 136 that is all of it
     pub ended : (f : Form) (c : Block) (text b : List ℕ) → On i (Moves (Get f)) (cioOf c text b) → let o = does (cioOf c text b) in o .effect .status ≡ endOfFile → gotBy i (cioOf c text b) o ≡ left
 
@@ -219,8 +228,8 @@ module _ (g : Geometry) where
     abbrev pub StoredOver : X → ℕ → ℕ → List Call → Type 0
     StoredOver x i s cs = let z = run m cs x in Stored (m .system x) (m .system z) (λ c. m .outcome c z) i s (putBytes i (events m cs x))
 
-    abbrev pub DeliveredOver : List ℕ → X → ℕ → ℕ → List Call → Type 0
-    DeliveredOver bytes x i s cs = let z = run m cs x in Delivered bytes (m .system x) (m .system z) (λ c. m .outcome c z) i s (gotBytes i (events m cs x)) (leftAfter i cs bytes) (Uncut i (events m cs x))
+    abbrev pub DeliveredOver : List ℕ → Type 0 → X → ℕ → ℕ → List Call → Type 0
+    DeliveredOver bytes sure x i s cs = let z = run m cs x in Delivered bytes sure (m .system x) (m .system z) (λ c. m .outcome c z) i s (gotBytes i (events m cs x)) (leftAfter i cs bytes) (Uncut i (events m cs x))
 
     -- a file that was opened for output under the name in text, written and closed; these bytes were put. A list of calls that leave the file left z; it left its name too where `same` holds
     pub record Returns (text put : List ℕ) (s : ℕ) (same : Type 0) (z : X) : Type 0 where
@@ -232,26 +241,26 @@ module _ (g : Geometry) where
       -- an open for input under the name that it has answers 1 on every closed channel
       pub opens : (c : Block) (again b : List ℕ) → Asks c (Files Open) → c .direction ≡ 4 → Finds (m .system z .disk) (readName again) s → c .channel < 8 → openAt (m .system z .table) (c .channel) ≡ false
           → m .outcome (cioOf c again b) z .effect .status ≡ success
-      -- and then gets among any other calls hand out these bytes, from the first to the last
-      pub reads : (c : Block) (again b : List ℕ) → Asks c (Files Open) → c .direction ≡ 4 → Finds (m .system z .disk) (readName again) s → let call = cioOf c again b in m .outcome call z .effect .status ≡ success
-          → (es : List Call) → StaysOpen (c .channel) (events m es (m .next call z)) → DeliveredOver put (m .next call z) (c .channel) s es
+      -- and then gets among any other calls hand out these bytes, from the first to the last; where there are any, 3 comes with the last
+      pub reads : (c : Block) (again b : List ℕ) → Asks c (Files Open) → c .direction ≡ 4 → Finds (m .system z .disk) (readName again) s → let call = cioOf c again b in Succeeds (m .outcome call z .effect .status)
+          → (es : List Call) → StaysOpen (c .channel) (events m es (m .next call z)) → DeliveredOver put (put ≢ []) (m .next call z) (c .channel) s es
 
     -- demand 2, from x on
     pub record Demand2 (x : X) : Type 0 where
-      -- an open for output that answers 1
-      pub opens : (c : Block) (text b : List ℕ) → Asks c (Files Open) → c .direction ≡ 8 → let call = cioOf c text b in m .outcome call x .effect .status ≡ success → OpenedOutput c text (m .system (m .next call x))
+      -- an open for output that succeeds
+      pub opens : (c : Block) (text b : List ℕ) → Asks c (Files Open) → c .direction ≡ 8 → let call = cioOf c text b in Succeeds (m .outcome call x .effect .status) → OpenedOutput c text (m .system (m .next call x))
       -- puts among any other calls, up to the channel's close
       pub puts : (i s : ℕ) → i < 8 → WritesTo (m .system x .table) i s → (cs : List Call) → StaysOpen i (events m cs x) → StoredOver x i s cs
       -- any calls that leave a standing file: it keeps its bytes, and its name unless it was renamed
       pub keeps : (s : ℕ) → Stands (m .system x .disk) s → (cs : List Call) → LeavesAll s (events m cs x) → FileKept (m .system x .disk) (m .system (run m cs x) .disk) s
       pub names : (s : ℕ) → Stands (m .system x .disk) s → (cs : List Call) → LeavesAll s (events m cs x) → LeavesNameAll s (events m cs x) → SameName (m .system (run m cs x) .disk) s (m .system x .disk) s
-      -- an open for input that answers 1
-      pub reopens : (c : Block) (text b : List ℕ) → Asks c (Files Open) → c .direction ≡ 4 → (s : ℕ) → Finds (m .system x .disk) (readName text) s → let call = cioOf c text b in m .outcome call x .effect .status ≡ success
+      -- an open for input that succeeds
+      pub reopens : (c : Block) (text b : List ℕ) → Asks c (Files Open) → c .direction ≡ 4 → (s : ℕ) → Finds (m .system x .disk) (readName text) s → let call = cioOf c text b in Succeeds (m .outcome call x .effect .status)
           → (c .channel < 8) × (m .system (m .next call x) .disk ≡ m .system x .disk) × AtStart (m .system (m .next call x)) (c .channel) s
-      -- gets among any other calls, up to the channel's close
-      pub gets : (i s : ℕ) → i < 8 → AtStart (m .system x) i s → (cs : List Call) → StaysOpen i (events m cs x) → DeliveredOver (file g (m .system x .disk) s) x i s cs
-      -- the whole: an open for output that answers 1, puts among any other calls, closes with the notch closed too, the close with it open, which answers 1, and any calls that leave the file
-      pub whole : (c : Block) (text b : List ℕ) → Asks c (Files Open) → c .direction ≡ 8 → let call = cioOf c text b in m .outcome call x .effect .status ≡ success
+      -- gets among any other calls, up to the channel's close; where the file's last sector is not empty 3 comes with the last byte
+      pub gets : (i s : ℕ) → i < 8 → AtStart (m .system x) i s → (cs : List Call) → StaysOpen i (events m cs x) → DeliveredOver (file g (m .system x .disk) s) (LastInUse (m .system x .disk) s) x i s cs
+      -- the whole: an open for output that succeeds, puts among any other calls, closes with the notch closed too, the close with it open, which answers 1, and any calls that leave the file
+      pub whole : (c : Block) (text b : List ℕ) → Asks c (Files Open) → c .direction ≡ 8 → let call = cioOf c text b in Succeeds (m .outcome call x .effect .status)
           → (s : ℕ) → WritesTo (m .system (m .next call x) .table) (c .channel) s → (cs : List Call) → StaysOpen (c .channel) (events m cs (m .next call x)) → (close : Call) → On (c .channel) Close close → protectedIn close ≡ false
           → let y = run m cs (m .next call x) in let put = putBytes (c .channel) (events m cs (m .next call x)) in
           (m .outcome close y .effect .status ≡ success)

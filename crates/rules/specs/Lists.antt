@@ -13,7 +13,7 @@ use Rattle.rules.specs.declared.FileCommand.the-variants.{Format}
 use Rattle.rules.specs.declared.Command.the-variants.{Files}
 use Rattle.layout.specs.Image.{Disk, Geometry, geometryOf, view}
 use Rattle.layout.specs.Header.{servedAs}
-use Rattle.layout.specs.Status.{success}
+use Rattle.layout.specs.Status.{Succeeds}
 use Rattle.rules.specs.Commands.{Effect}
 use Rattle.rules.specs.Cio.{Outcome, outcome, ImageOutcome, Asks, cio, cioCall}
 use Rattle.rules.specs.Recovery.{Recovered, ImageRecovered, recover, recoverCall}
@@ -119,9 +119,9 @@ pub record SoundImage (m : Medium) (x : ImageTable) : Type 0 where
   pub served : IsServed m x
   pub sound : let g = geometryOf m in Sound g (view g (x .image)) (x .table)
 
--- of every medium: any list of calls leaves an image that is served as it was, and a sound one where it was sound; a format that answers 1 makes a sound one of any that is served
+-- of every medium: any list of calls leaves an image that is served as it was, and a sound one where it was sound; a format that succeeds makes a sound one of any that is served
 pub record ImageSound (m : Medium) : Type 0 where
   pub kept : (x : ImageTable) → IsServed m x → (cs : List Call) → IsServed m (run (images (geometryOf m)) cs x)
   pub calls : (x : ImageTable) → SoundImage m x → (cs : List Call) → SoundImage m (run (images (geometryOf m)) cs x)
   pub formats : (x : ImageTable) → IsServed m x → length (x .table .channels) ≡ 8 → (c : Block) (text b : List ℕ) → Asks c (Files Format)
-      → let call = cioOf c text b in outcomeOn call x .answer .status ≡ success → SoundImage m (afterOn (outcomeOn call x))
+      → let call = cioOf c text b in Succeeds (outcomeOn call x .answer .status) → SoundImage m (afterOn (outcomeOn call x))

@@ -1,7 +1,7 @@
 -- What a put leaves on any disk: how many bytes it counts, and which sectors it changes.
 use mathlib.Core.Bool.{Bool, true, false}
 use mathlib.Core.List.{List, [], _∷_}
-use mathlib.Core.Logic.{_≢_}
+use mathlib.Core.Logic.{_≢_, _⊎_, inl, inr}
 use mathlib.Core.Path.{_≡_, refl, sym, ap, _∙_}
 use Prim.Native.Nat.{ℕ, _+_, _/_, _≤_}
 use native.Mathlib.Omega.{arith}
@@ -21,6 +21,7 @@ use Rattle.rules.specs.Put.{Adds, Room, roomIn, roomFor, addByte, putFrom, PutO
 use Rattle.rules.specs.Demand1.{OnlyEnd}
 use Rattle.rules.proofs.Acts.{PutEnds, put-refuses, put-none, put-some}
 use Rattle.rules.proofs.Rooms.{add-other}
+use Rattle.theory.proofs.Sectors.{add-used}
 
 -- sector k is none of those that a put to slot s writes before it gives out another: the volume table, the slot's sector of the directory, the file's last sector p
 pub record Beside (s p k : ℕ) : Type 0 where
@@ -42,20 +43,26 @@ module _ (g : Geometry) (s : ℕ) where
           let h : k ≢ x = member-not k x [] (rw (← e) at m) .0 in
           rw (← e) (record { volume = b .volume; slots = b .slots; last = h }, give-other s k (b .slots) g d p x (b .volume) (b .last) h)
 
-  -- bytes added behind the n counted before: at least these are counted, and at most those lent more; where no more are, nothing changed; and only sectors that are not beside change
+  -- bytes added behind the n counted before: at least these are counted, and at most those lent more; where no more are, nothing changed; only sectors that are not beside change; and the last sector is not empty where more are, or where it was not before
   record Adding (xs : List ℕ) (d : Disk) (p n : ℕ) (o : Adds) : Type 0 where
     least : n ≤ o .added .count
     most : o .added .count ≤ n + length xs
     idle : o .added .count ≡ n → o .disk ≡ d
     beside : (k : ℕ) → Beside s p k → member k (o .given) ≡ false → o .disk k ≡ d k
+    used : (inUse g (d p) ≢ 0) ⊎ (o .added .count ≢ n) → inUse g (o .disk (o .added .last)) ≢ 0
+
+  -- nothing added
+  unused : (d : Disk) (p n : ℕ) → (inUse g (d p) ≢ 0) ⊎ (n ≢ n) → inUse g (d p) ≢ 0
+  unused d p n (inl u) = u
+  unused d p n (inr u) = absurd (u refl)
 
   adding : (xs : List ℕ) (d : Disk) (p n : ℕ) → Adding xs d p n (putFrom g xs d s p n)
   unfolding putFrom
-  adding [] d p n = record { least = omega arith; most = omega arith; idle = λ _. refl; beside = λ k _ _. refl }
+  adding [] d p n = record { least = omega arith; most = omega arith; idle = λ _. refl; beside = λ k _ _. refl; used = unused d p n }
   adding (x ∷ xs) d p n = go (eqb (roomFor g d s p .sector) 0) refl (adding xs)
     where
       go : (c : Bool) → eqb (roomFor g d s p .sector) 0 ≡ c → ((d : Disk) (p n : ℕ) → Adding xs d p n (putFrom g xs d s p n)) → Adding (x ∷ xs) d p n (putFrom g (x ∷ xs) d s p n)
-      go true e f = rw (e, putFrom) (record { least = omega arith; most = omega arith; idle = λ _. refl; beside = λ k _ _. refl })
+      go true e f = rw (e, putFrom) (record { least = omega arith; most = omega arith; idle = λ _. refl; beside = λ k _ _. refl; used = unused d p n })
       go false e f =
           let r = roomFor g d s p in
           let o = f (addByte g (r .disk) (r .sector) x) (r .sector) (n + 1) in
@@ -68,7 +75,12 @@ module _ (g : Geometry) (s : ℕ) where
             beside = λ k b h.
                 let (u, v) = room-beside d p k b r refl (member-left k (r .given) _ h) (eqb-false (r .sector) 0 e) in
                 o .beside k u (member-right k (r .given) _ h) ∙ add-other g (r .disk) (r .sector) x k (u .last) ∙ v;
+            used = λ _. o .used (inl (λ q. let u = add-used g (r .disk) (r .sector) x in omega arith));
           })
+
+-- what a put of some bytes leaves in the last sector
+pub put-used : (g : Geometry) (b : List ℕ) (d : Disk) (s p : ℕ) → let o = putFrom g b d s p 0 in (inUse g (d p) ≢ 0) ⊎ (o .added .count ≢ 0) → inUse g (o .disk (o .added .last)) ≢ 0
+put-used g b d s p = adding g s b d p 0 .used
 
 -- a put on one channel counts at most the bytes lent; where it counts none nothing changed; and it changes the file's end alone
 pub record Leaves (st : State) (d : Disk) (b : List ℕ) (o : PutOutcome) : Type 0 where

@@ -7,6 +7,7 @@ use Rattle.layout.specs.Image.{Geometry}
 use Rattle.layout.specs.File.{file}
 use Rattle.layout.specs.Channels.{openAt}
 use Rattle.layout.specs.Names.{readName}
+use Rattle.layout.specs.Status.{succeeds}
 use Rattle.rules.specs.Cio.{Outcome}
 use Rattle.rules.specs.Lists.{Call, cioOf, recoveryOf, System, Event, Machine, run, events}
 use Rattle.rules.specs.Demand2.{Finds, StaysOpen, WritesTo, AtStart, LeavesAll, LeavesNameAll, OpenedOutput, Stored, Delivered, putBytes, gotBytes, leftAfter, Uncut, DeliveredOver, Returns, Demand2}
@@ -54,8 +55,8 @@ module _ {X Y : Type 0} (m : Machine X) (n : Machine Y) where
       rw (same-system x y h, same-system (run m cs x) (run n cs y) h1, fun-ext (same-outcome (run m cs x) (run n cs y) h1), same-events cs x y h) k
 
   module _ (g : Geometry) where
-    delivered-alike : (x : X) (y : Y) → Alike x y → (bytes : List ℕ) (i s : ℕ) (cs : List Call) → DeliveredOver g n bytes y i s cs → DeliveredOver g m bytes x i s cs
-    delivered-alike x y h bytes i s cs = over-alike (λ a z does es. Delivered g bytes a z does i s (gotBytes i es) (leftAfter i cs bytes) (Uncut i es)) cs x y h
+    delivered-alike : (x : X) (y : Y) → Alike x y → (bytes : List ℕ) (sure : Type 0) (i s : ℕ) (cs : List Call) → DeliveredOver g n bytes sure y i s cs → DeliveredOver g m bytes sure x i s cs
+    delivered-alike x y h bytes sure i s cs = over-alike (λ a z does es. Delivered g bytes sure a z does i s (gotBytes i es) (leftAfter i cs bytes) (Uncut i es)) cs x y h
 
     returns-alike : (x : X) (y : Y) → Alike x y → (text put : List ℕ) (s : ℕ) (same : Type 0) → Returns g n text put s same y → Returns g m text put s same x
     returns-alike x y h text put s same r =
@@ -70,7 +71,7 @@ module _ {X Y : Type 0} (m : Machine X) (n : Machine Y) where
               let x1 = m .next call x in
               let y1 = n .next call y in
               let h1 = alike-next x y h call in
-              delivered-alike x1 y1 h1 put (c .channel) s es (r .reads c again b p q (subst (λ (z : System). Finds (z .disk) (readName again) s) e k) (sym (same-status x y h call) ∙ o) es (subst (StaysOpen (c .channel)) (same-events es x1 y1 h1) ns));
+              delivered-alike x1 y1 h1 put _ (c .channel) s es (r .reads c again b p q (subst (λ (z : System). Finds (z .disk) (readName again) s) e k) (ap succeeds (sym (same-status x y h call)) ∙ o) es (subst (StaysOpen (c .channel)) (same-events es x1 y1 h1) ns));
         }
 
     module _ (x : X) (y : Y) (h : Alike x y) where
@@ -85,14 +86,14 @@ module _ {X Y : Type 0} (m : Machine X) (n : Machine Y) where
 
       pub demand2-alike : Demand2 g n y → Demand2 g m x
       demand2-alike d = record {
-        opens = λ c text b p q k. let call = cioOf c text b in subst (OpenedOutput g c text) (sym (after-call call)) (d .opens c text b p q (sym (same-status x y h call) ∙ k));
+        opens = λ c text b p q k. let call = cioOf c text b in subst (OpenedOutput g c text) (sym (after-call call)) (d .opens c text b p q (ap succeeds (sym (same-status x y h call)) ∙ k));
         puts = λ i s l w cs ns. over-alike (λ a z does es. Stored g a z does i s (putBytes i es)) cs x y h (d .puts i s l (subst (λ (z : System). WritesTo (z .table) i s) e w) cs (subst (StaysOpen i) (same-events cs x y h) ns));
         keeps = λ s v cs k. rw (e, after-list cs) (d .keeps s (subst (λ (z : System). Stands (z .disk) s) e v) cs (subst (LeavesAll s) (same-events cs x y h) k));
         names = λ s v cs k l.
             let f = same-events cs x y h in
             rw (e, after-list cs) (d .names s (subst (λ (z : System). Stands (z .disk) s) e v) cs (subst (LeavesAll s) f k) (subst (LeavesNameAll s) f l));
-        reopens = λ c text b p q s k o. let call = cioOf c text b in rw (after-call call, e) (d .reopens c text b p q s (subst (λ (z : System). Finds (z .disk) (readName text) s) e k) (sym (same-status x y h call) ∙ o));
-        gets = λ i s l a cs ns. delivered-alike x y h _ i s cs (rw e (d .gets i s l (subst (λ (z : System). AtStart z i s) e a) cs (subst (StaysOpen i) (same-events cs x y h) ns)));
+        reopens = λ c text b p q s k o. let call = cioOf c text b in rw (after-call call, e) (d .reopens c text b p q s (subst (λ (z : System). Finds (z .disk) (readName text) s) e k) (ap succeeds (sym (same-status x y h call)) ∙ o));
+        gets = λ i s l a cs ns. delivered-alike x y h _ _ i s cs (rw e (d .gets i s l (subst (λ (z : System). AtStart z i s) e a) cs (subst (StaysOpen i) (same-events cs x y h) ns)));
         whole = λ c text b p q k s w cs ns close r u.
             let call = cioOf c text b in
             let x1 = m .next call x in
@@ -104,7 +105,7 @@ module _ {X Y : Type 0} (m : Machine X) (n : Machine Y) where
             let x3 = m .next close x2 in
             let y3 = n .next close y2 in
             let h3 = alike-next x2 y2 h2 close in
-            let (done, returns) = d .whole c text b p q (sym (same-status x y h call) ∙ k) s (subst (λ (z : System). WritesTo (z .table) (c .channel) s) (after-call call) w) cs (subst (StaysOpen (c .channel)) (same-events cs x1 y1 h1) ns) close r u in (
+            let (done, returns) = d .whole c text b p q (ap succeeds (sym (same-status x y h call)) ∙ k) s (subst (λ (z : System). WritesTo (z .table) (c .channel) s) (after-call call) w) cs (subst (StaysOpen (c .channel)) (same-events cs x1 y1 h1) ns) close r u in (
               same-status x2 y2 h2 close ∙ done,
               λ ds l.
                   let f = same-events ds x3 y3 h3 in
@@ -119,4 +120,4 @@ module _ {X Y : Type 0} (m : Machine X) (n : Machine Y) where
           let y1 = n .next del y in
           let h1 = alike-next x y h del in
           over-alike (λ _ z does es. Recovers g (m .system x .disk) s (givenBy es) z (does (recoveryOf false s) .effect)) cs x1 y1 h1
-          (rw e (d c text b u w s p q (rw e at f) (sym (same-status x y h del) ∙ k) cs (subst (SparesAll s) (same-events cs x1 y1 h1) sp)))
+          (rw e (d c text b u w s p q (rw e at f) (ap succeeds (sym (same-status x y h del)) ∙ k) cs (subst (SparesAll s) (same-events cs x1 y1 h1) sp)))

@@ -20,7 +20,7 @@ use Rattle.layout.specs.Header.{servedAs}
 use Rattle.layout.specs.Channels.{freshTable}
 use Rattle.layout.specs.Status.{success, endOfFile, badChain, diskFull}
 use Rattle.layout.proofs.Check.{by-check}
-use Rattle.rules.specs.Get.{GetOutcome, filled, readFrom, fill, gets}
+use Rattle.rules.specs.Get.{GetOutcome, filled, readFrom, fill, gets, orEndReached}
 use Rattle.rules.specs.Put.{PutOutcome, sent, roomFor, putFrom, puts}
 use Rattle.rules.specs.Cio.{Outcome}
 use Rattle.rules.specs.Sectors.{SectorOutcome, sector}
@@ -29,6 +29,7 @@ use Rattle.rules.specs.Lists.{Call, cioOf, recoveryOf, outcomeOf}
 use Rattle.rules.specs.Demand1.{openAnswers, getAnswers, getRecordAnswers, putAnswers, commandAnswers, sectorAnswers, headerAnswers, Answers}
 use Rattle.rules.proofs.Acts.{Kind, answersTo, GetEnds, get-closed, get-writing, get-broken, get-none, get-some, PutEnds, put-refuses, put-none, put-some, Ends, refuses, reads, reads-none, writes, writes-none, frees, closes, drops, opens, rewrites, makes, tells, renames, deletes, locks, unlocks, formats, restores}
 use Rattle.rules.proofs.Ends.{get-ends, put-ends, answers-are, ends}
+use Rattle.rules.proofs.Reached.{by-end}
 use Rattle.rules.proofs.Steps.{read-step, fill-record, drop-status}
 use Rattle.theory.proofs.Served.{cio-on, recover-on, sector-on, thin-get-on, thin-put-on}
 
@@ -67,7 +68,7 @@ module _ (g : Geometry) (d : Disk) where
   get-answers (get-writing s p) = refl
   get-answers (get-broken s k o l p) = refl
   get-answers (get-none s k o l p) = refl
-  get-answers {b = b} (get-some s k o l n p) = by-fill g (Among getAnswers) refl Characters refl refl refl d s _ b
+  get-answers {b = b} (get-some s k o l n p) = by-end g d b _ (Among getAnswers) _ (by-fill g (Among getAnswers) refl Characters refl refl refl d s _ b) (λ _ _ _. refl)
 
   put-answers : {protected : Bool} {st : State} {b : List ℕ} {o : PutOutcome} → PutEnds g d protected b st o → Among putAnswers (o .answer .status)
   unfolding puts member
@@ -75,10 +76,10 @@ module _ (g : Geometry) (d : Disk) where
   put-answers (put-none s p q) = refl
   put-answers {b = b} (put-some s p u n q r) = by-put-from g (Among putAnswers) refl refl b d s p 0
 
-  read-answers : (f : Form) (direction s : ℕ) (p : Place) (b : List ℕ) → Among (commandAnswers direction (Moves (Get f))) (fill g f d s p b .got .status)
+  read-answers : (f : Form) (direction s : ℕ) (p : Place) (b : List ℕ) (st : State) → Among (commandAnswers direction (Moves (Get f))) (orEndReached g d b st (fill g f d s p b .got .status))
   unfolding commandAnswers member
-  read-answers Characters direction s p b = by-fill g (Among getAnswers) refl Characters refl refl refl d s p b
-  read-answers Record direction s p b = by-fill g (Among getRecordAnswers) refl Record refl refl refl d s p b
+  read-answers Characters direction s p b st = by-end g d b st (Among getAnswers) _ (by-fill g (Among getAnswers) refl Characters refl refl refl d s p b) (λ _ _ _. refl)
+  read-answers Record direction s p b st = by-end g d b st (Among getRecordAnswers) _ (by-fill g (Among getRecordAnswers) refl Record refl refl refl d s p b) (λ _ _ _. refl)
 
   none-answers : (f : Form) (direction : ℕ) → Among (commandAnswers direction (Moves (Get f))) success
   unfolding commandAnswers member
@@ -88,7 +89,7 @@ module _ (g : Geometry) (d : Disk) where
   call-answers : {t : Table} {k : Kind} {c : Call} {o : Outcome} → Ends g d t k c o → Among (answersTo c) (o .effect .status)
   unfolding commandAnswers openAnswers check member
   call-answers (refuses n w m) = m
-  call-answers (reads {f = f} {b = b} s k o l h) = rw (answers-are _ _ (h .on)) (read-answers f _ s _ b)
+  call-answers (reads {f = f} {b = b} s k o l h) = rw (answers-are _ _ (h .on)) (read-answers f _ s _ b _)
   call-answers (reads-none {f = f} o e) = rw (answers-are _ _ o) (none-answers f _)
   call-answers (writes {f = f} {b = b} s p h) = rw (answers-are _ _ (h .on)) (by-put-from g (Among putAnswers) refl refl (sent f b) d s p 0)
   call-answers (writes-none o e) = rw (answers-are _ _ o) refl

@@ -21,7 +21,7 @@ use Rattle.layout.specs.Image.{Disk, Geometry}
 use Rattle.layout.specs.Directory.{find}
 use Rattle.layout.specs.Channels.{channel, stateOf, withState, openAt, anyOpen, holds, holdsAt, heldByChannel, held}
 use Rattle.layout.specs.Names.{readName, oldName}
-use Rattle.layout.specs.Status.{success, writeProtected}
+use Rattle.layout.specs.Status.{Fails, writeProtected}
 use Rattle.layout.proofs.Channels.{state-other, Holding, reads, writes, holding, holds-open}
 use Rattle.layout.proofs.Search.{any-at}
 use Rattle.rules.specs.Cio.{Outcome, Asks}
@@ -29,7 +29,7 @@ use Rattle.rules.specs.Lists.{Call, cioOf, recoveryOf, System, perform, outcome
 use Rattle.rules.specs.Sound.{Sound}
 use Rattle.rules.specs.Demand2.{Finds}
 use Rattle.rules.proofs.Acts.{Kind, asks, Told, bytes, Aimed, Ends, refuses, reads, reads-none, writes, writes-none, frees, closes, drops, opens, rewrites, makes, tells, renames, deletes, locks, unlocks, formats, restores}
-use Rattle.rules.proofs.Ends.{why-not-one, ends, ends-as}
+use Rattle.rules.proofs.Ends.{why-fails, ends, ends-as}
 use Rattle.theory.proofs.Stays.{Both}
 use Rattle.theory.proofs.SoundRestore.{held-stands}
 use Rattle.theory.proofs.Keeps.{call-keeps}
@@ -117,24 +117,24 @@ module _ (g : Geometry) (d : Disk) (t : Table) (a : Sound g d t) (i : ℕ) (z : 
       go (yes m) r (reads q o l) = absurd (a .reading i x q o l z r .1 (a .writing j x p m e .1))
       go (yes m) r (writes q) = a .once j i x p q m z e r
 
-  -- so no call that opens for output, deletes or renames it, or formats, answers 1
+  -- so no call that opens for output, deletes or renames it, or formats, succeeds
   module _ {c : Block} {text b : List ℕ} where
-    no-open : {o : Outcome} → Ends g d t (asks (Files Open)) (cioOf c text b) o → c .direction ≡ 8 → Finds d (readName text) x → o .effect .status ≢ success
-    no-open (refuses n w m) e k = why-not-one w
+    no-open : {o : Outcome} → Ends g d t (asks (Files Open)) (cioOf c text b) o → c .direction ≡ 8 → Finds d (readName text) x → Fails (o .effect .status)
+    no-open (refuses n w m) e k = why-fails w
     no-open (opens s p) e k = λ _. let f = p .direction in omega arith
     no-open (rewrites s p) e k = λ _. not-free (p .aim) (p .unheld) k
     no-open (makes s p) e k = λ _. let f = found-there d x (p .told) k in let h = p .missing in let y : _≡_ {A = ℕ} 0 1 = cc in omega arith
 
-    no-delete : {o : Outcome} → Ends g d t (asks (Files Delete)) (cioOf c text b) o → Finds d (readName text) x → o .effect .status ≢ success
-    no-delete (refuses n w m) k = why-not-one w
+    no-delete : {o : Outcome} → Ends g d t (asks (Files Delete)) (cioOf c text b) o → Finds d (readName text) x → Fails (o .effect .status)
+    no-delete (refuses n w m) k = why-fails w
     no-delete (deletes s p) k = λ _. not-free (p .aim) (p .unheld) k
 
-    no-rename : {o : Outcome} → Ends g d t (asks (Files Rename)) (cioOf c text b) o → Finds d (oldName text) x → o .effect .status ≢ success
-    no-rename (refuses n w m) k = why-not-one w
+    no-rename : {o : Outcome} → Ends g d t (asks (Files Rename)) (cioOf c text b) o → Finds d (oldName text) x → Fails (o .effect .status)
+    no-rename (refuses n w m) k = why-fails w
     no-rename (renames s p) k = λ _. not-free (p .aim) (p .unheld) k
 
-    no-format : {o : Outcome} → Ends g d t (asks (Files Format)) (cioOf c text b) o → o .effect .status ≢ success
-    no-format (refuses n w m) = why-not-one w
+    no-format : {o : Outcome} → Ends g d t (asks (Files Format)) (cioOf c text b) o → Fails (o .effect .status)
+    no-format (refuses n w m) = why-fails w
     no-format (formats p) = λ _. true≢false (sym some-open ∙ p .none)
 
 -- so every call that is quiet on the channel leaves its state, its file and the file's name

@@ -1,7 +1,7 @@
 -- Demand 2 over any calls: what was written and closed reads back the same.
 use mathlib.Core.Bool.{false}
 use mathlib.Core.Logic.{_≢_}
-use mathlib.Core.List.{List, _++_}
+use mathlib.Core.List.{List, [], _++_}
 use mathlib.Core.Path.{_≡_, refl, sym, ap, _∙_, subst}
 use Prim.Native.Nat.{ℕ, _<_}
 use native.Mathlib.Omega.{arith}
@@ -15,24 +15,24 @@ use Rattle.layout.specs.Directory.{flag, count}
 use Rattle.layout.specs.File.{file}
 use Rattle.layout.specs.Channels.{stateOf, openAt}
 use Rattle.layout.specs.Names.{nameByte, readName}
-use Rattle.layout.specs.Status.{success}
+use Rattle.layout.specs.Status.{success, Succeeds}
 use Rattle.rules.specs.Cio.{Outcome, Asks}
 use Rattle.rules.specs.Lists.{Call, cioOf, protectedIn, System, after, perform, outcomeOf, run, events, disks}
 use Rattle.rules.specs.Sound.{Stands, Sound}
-use Rattle.rules.specs.Demand2.{Finds, WritesTo, AtStart, On, StaysOpen, LeavesAll, LeavesNameAll, putBytes, DeliveredOver, Returns, DiskDemand2}
+use Rattle.rules.specs.Demand2.{Finds, WritesTo, AtStart, On, StaysOpen, LeavesAll, LeavesNameAll, putBytes, LastInUse, DeliveredOver, Returns, DiskDemand2}
 use Rattle.rules.proofs.Acts.{asks, Ends, refuses, opens, rewrites, makes}
-use Rattle.rules.proofs.Ends.{why-not-one, ends-as}
+use Rattle.rules.proofs.Ends.{why-fails, ends-as}
 use Rattle.rules.proofs.Does.{does-open}
 use Rattle.theory.proofs.Standing.{stands-slot, stands-flag, bytes-same, same-bytes}
 use Rattle.theory.proofs.SoundChan.{state-at}
 use Rattle.theory.proofs.SoundCommands.{plain-flag, plain-sound}
 use Rattle.theory.proofs.SoundCalls.{call-sound, calls-sound}
-use Rattle.theory.proofs.Stays.{Stays, Named, stays-file}
+use Rattle.theory.proofs.Stays.{Stays, Named, stays-file, stays-last}
 use Rattle.theory.proofs.Find.{find-at}
-use Rattle.theory.proofs.Shut.{find-is}
+use Rattle.theory.proofs.Shut.{close-call, find-is}
 use Rattle.theory.proofs.Keeps.{calls-keep, kept-file}
 use Rattle.theory.proofs.Channel.{found-is}
-use Rattle.theory.proofs.PutCalls.{opened-output, put-calls}
+use Rattle.theory.proofs.PutCalls.{opened-output, put-written, put-calls}
 use Rattle.theory.proofs.GetCalls.{get-calls}
 
 -- an open for input of a name found in slot s
@@ -43,14 +43,14 @@ module _ (g : Geometry) (x : System) (a : Sound g (x .disk) (x .table)) (c : Blo
   abbrev t : Table
   t = x .table
 
-  -- one that answers 1
-  opened : {o : Outcome} → Ends g d t (asks (Files Open)) (cioOf c text b) o → c .direction ≡ 4 → o .effect .status ≡ success → (c .channel < 8) × (o .effect .disk ≡ d) × (stateOf (o .effect .table) (c .channel) ≡ Reading s 0 0 (count d s))
-  opened (refuses n w m) e h = absurd (why-not-one w h)
+  -- one that succeeds
+  opened : {o : Outcome} → Ends g d t (asks (Files Open)) (cioOf c text b) o → c .direction ≡ 4 → Succeeds (o .effect .status) → (c .channel < 8) × (o .effect .disk ≡ d) × (stateOf (o .effect .table) (c .channel) ≡ Reading s 0 0 (count d s))
+  opened (refuses n w m) e h = absurd (why-fails w h)
   opened (opens v p) e h = let z = p .ready .on .small in (z, refl, state-at g d t a (c .channel) z _ ∙ rw (found-is d s (p .told) k (p .at)))
   opened (rewrites v p) e h = absurd (let f = p .direction in omega arith)
   opened (makes v p) e h = absurd (let f = p .direction in omega arith)
 
-  opened-input : Asks c (Files Open) → c .direction ≡ 4 → let e = perform g (cioOf c text b) x in e .status ≡ success → (c .channel < 8) × (e .disk ≡ x .disk) × AtStart (after e) (c .channel) s
+  opened-input : Asks c (Files Open) → c .direction ≡ 4 → let e = perform g (cioOf c text b) x in Succeeds (e .status) → (c .channel < 8) × (e .disk ≡ x .disk) × AtStart (after e) (c .channel) s
   unfolding outcomeOf
   opened-input m n h =
       let (z, p, q) = opened (ends-as g d t c text b _ m) n h in
@@ -71,7 +71,7 @@ slot-is t i x s (p, e) (q, f) = cc
 
 module _ (g : Geometry) (roomy : 0 < g .room) where
   -- a file that was opened for output, written and closed, after any calls ds that leave it; y is what the close left
-  module _ (text put : List ℕ) (s : ℕ) (y : System) (a1 : Sound g (y .disk) (y .table)) (v : Stands (y .disk) s) (f : flag (y .disk) s ≡ 0x42) (bytes : file g (y .disk) s ≡ put) (named : Finds (y .disk) (readName text) s) (ds : List Call) (hs : LeavesAll s (events (disks g) ds y)) where
+  module _ (text put : List ℕ) (s : ℕ) (y : System) (a1 : Sound g (y .disk) (y .table)) (v : Stands (y .disk) s) (f : flag (y .disk) s ≡ 0x42) (bytes : file g (y .disk) s ≡ put) (last : put ≢ [] → LastInUse g (y .disk) s) (named : Finds (y .disk) (readName text) s) (ds : List Call) (hs : LeavesAll s (events (disks g) ds y)) where
     abbrev z : System
     z = run (disks g) ds y
 
@@ -102,10 +102,11 @@ module _ (g : Geometry) (roomy : 0 < g .room) where
       reads = λ c again b m n k h es ns.
           let call = cioOf c again b in
           let (l, d, at) = opened-input g z a2 c again b s k m n h in
-          subst (λ r. DeliveredOver g (disks g) r (after (perform g call z)) (c .channel) s es) (ap (λ (d : Disk). file g d s) d ∙ same) (get-calls g roomy (after (perform g call z)) (call-sound g roomy call z a2) (c .channel) s l at es ns);
+          let u : put ≢ [] → LastInUse g (perform g call z .disk) s = λ n. rw d (stays-last g (y .disk) (z .disk) s (stays .0) (last n)) in
+          subst (λ r. DeliveredOver g (disks g) r (put ≢ []) (after (perform g call z)) (c .channel) s es) (ap (λ (d : Disk). file g d s) d ∙ same) (get-calls g roomy (after (perform g call z)) (call-sound g roomy call z a2) (c .channel) s l at (put ≢ []) u es ns);
     }
 
-  whole : (x : System) → Sound g (x .disk) (x .table) → (c : Block) (text b : List ℕ) → Asks c (Files Open) → c .direction ≡ 8 → let call = cioOf c text b in perform g call x .status ≡ success
+  whole : (x : System) → Sound g (x .disk) (x .table) → (c : Block) (text b : List ℕ) → Asks c (Files Open) → c .direction ≡ 8 → let call = cioOf c text b in Succeeds (perform g call x .status)
       → (s : ℕ) → WritesTo (perform g call x .table) (c .channel) s → (cs : List Call) → StaysOpen (c .channel) (events (disks g) cs (after (perform g call x))) → (close : Call) → On (c .channel) Close close → protectedIn close ≡ false
       → let y0 = after (perform g call x) in
       let y1 = run (disks g) cs y0 in
@@ -128,7 +129,8 @@ module _ (g : Geometry) (roomy : 0 < g .room) where
       let (word, extension, r, f) = o .finds in
       let t = find-at (y0 .disk) (nameByte word extension) (o .slot) f .1 in
       (word, extension, r, find-is g (y2 .disk) (y2 .table) a1 s (nameByte word extension) (kept .stands) (bytes-same (y2 .disk) s (nameByte word extension) (λ j l. same-bytes (y2 .disk) s _ name j l ∙ same-bytes (y0 .disk) s (nameByte word extension) (rw e at t) j l))) in
-      (done, λ ds hs. returns text _ s y2 a1 (kept .stands) closed bytes named ds hs)
+      let (_, shut) = close-call g (c .channel) s (o .small) _ _ _ y1 (put-written g roomy y0 a0 (c .channel) s (o .small) w cs ns) close q u in
+      (done, λ ds hs. returns text _ s y2 a1 (kept .stands) closed bytes (shut .last) named ds hs)
 
 -- on any sound disk
 pub demand2 : (g : Geometry) → 0 < g .room → DiskDemand2 g
@@ -138,6 +140,6 @@ demand2 g roomy x a = record {
   keeps = λ s v cs k. kept-file g (x .disk) (run (disks g) cs x .disk) s (calls-keep g roomy cs x a s v k .0);
   names = λ s v cs k n. bytes-same (run (disks g) cs x .disk) s _ (calls-keep g roomy cs x a s v k .1 n);
   reopens = λ c text b m n s k h. opened-input g x a c text b s k m n h;
-  gets = get-calls g roomy x a;
+  gets = λ i s z e. get-calls g roomy x a i s z e _ (λ u. u);
   whole = whole g roomy x a;
 }

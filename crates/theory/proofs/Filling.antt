@@ -40,11 +40,15 @@ drop-taken n r = go (decLt (length r) n)
 drop-through : (x : ℕ) (r : List ℕ) → drop (length (through x r)) r ≡ behind x r
 drop-through x r = ap (drop (length (through x r))) (sym (through-behind x r)) ∙ drop-append-seam (through x r) (behind x r)
 
--- reading on a clean chain never comes to a sector that cannot be entered
+-- what reading on a clean chain answers: what holds of 1, 137 and 136 holds of it
+pub by-answer : (Q : ℕ → Type 0) → Q success → Q truncated → Q endOfFile → (a b : Bool) → Q (if a success (if b truncated endOfFile))
+by-answer Q p q r true b = p
+by-answer Q p q r false true = q
+by-answer Q p q r false false = r
+
+-- so it never comes to a sector that cannot be entered
 not-broken : (a b : Bool) → if a success (if b truncated endOfFile) ≢ badChain
-not-broken true b e = omega arith
-not-broken false true e = omega arith
-not-broken false false e = omega arith
+not-broken = by-answer (λ n. n ≢ badChain) (λ e. omega arith) (λ e. omega arith) (λ e. omega arith)
 
 -- where r is left of the file and the buffer is b
 pub record Filled (g : Geometry) (d : Disk) (s : ℕ) (f : Form) (r b : List ℕ) (z : Reads) : Type 0 where

@@ -1,5 +1,5 @@
 -- The header written: the image is then served by it, and every sector is as it was.
-use mathlib.Core.Bool.{true, false, _||_}
+use mathlib.Core.Bool.{true, false, _||_, true≢false}
 use mathlib.Core.List.{List}
 use mathlib.Core.Path.{_≡_, refl, sym, ap, _∙_}
 use Prim.Native.Nat.{ℕ, _+_, _-_, _≤_, _<_}
@@ -13,7 +13,7 @@ use Rattle.layout.specs.declared.density.Medium.{Medium}
 use Rattle.layout.specs.Basics.{allBelow, valuesFrom}
 use Rattle.layout.specs.Image.{Geometry, atrSingle, atrDouble, geometryOf, view}
 use Rattle.layout.specs.Header.{units, headerByte, sameHeader, agrees}
-use Rattle.layout.specs.Status.{success}
+use Rattle.layout.specs.Status.{Succeeds}
 use Rattle.layout.proofs.Check.{by-check}
 use Rattle.layout.proofs.Image.{start-boot, start-data, view-byte, view-past, values-length}
 use Rattle.layout.proofs.Header.{Kind, isSingle, isDouble, kind-served}
@@ -74,11 +74,11 @@ is-double n p q = eqb-true n 183952 (rw q at p)
 pub header-calls : HeaderCalls
 unfolding headerCall
 header-calls l protected =
-    by-check P _ _ _ (λ _ e. absurd (omega arith)) λ a.
-    by-check P _ _ _ (λ _ e. absurd (omega arith)) λ _.
+    by-check P _ _ _ (λ _ e. absurd (true≢false (sym e))) λ a.
+    by-check P _ _ _ (λ _ e. absurd (true≢false (sym e))) λ _.
     by-check P _ _ _
     (λ q _. let n = eqb-true (length l) 92176 q in headed atrSingle l (omega arith) refl (isSingle refl (same-length atrSingle l (omega arith) ∙ n) (single-agrees l)))
     λ q _. let n = is-double (length l) (not-false (eqb (length l) 92176 || eqb (length l) 183952) a) q in headed atrDouble l (omega arith) refl (isDouble refl (same-length atrDouble l (omega arith) ∙ n) (double-agrees l))
   where
     P : HeaderOutcome → Type 0
-    P o = o .reply .status ≡ success → Headed l (o .image)
+    P o = Succeeds (o .reply .status) → Headed l (o .image)

@@ -62,4 +62,5 @@ pub mod Never161
 pub mod Spelling
 pub mod ReadNames
 pub mod LinesBack
+pub mod EndReached
 pub mod Dropping

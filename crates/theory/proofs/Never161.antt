@@ -1,11 +1,8 @@
 -- No call answers 161. Every status is one of the numbers of demand 1's lists, and 161 is in none of them.
 use mathlib.Core.Bool.{true}
 use mathlib.Core.List.{List, [], _∷_}
-use mathlib.Core.Logic.{_⊎_, inl, inr}
 use mathlib.Core.Path.{_≡_, refl, ap, _∙_}
 use Prim.Native.Nat.{ℕ}
-use Rattle.layout.specs.declared.Served.{Served}
-use Rattle.layout.specs.declared.Served.the-variants.{As, Not}
 use Rattle.rules.specs.declared.Block.{Block}
 use Rattle.rules.specs.declared.Form.the-variants.{Characters, Record}
 use Rattle.rules.specs.declared.Transfer.{Transfer}
@@ -15,9 +12,8 @@ use Rattle.rules.specs.declared.FileCommand.the-variants.{Open, Status, Rename,
 use Rattle.rules.specs.declared.Command.the-variants.{Moves, Files}
 use Rattle.layout.specs.Basics.{member}
 use Rattle.layout.specs.Image.{geometryOf, view}
-use Rattle.layout.specs.Header.{servedAs}
 use Rattle.layout.specs.Channels.{openAt}
-use Rattle.layout.specs.Status.{success, badImage, badHeader, badChannel, badCommand, notServed, channelOpen, channelClosed, writeOnly, readOnly, writeProtected, badDevice, badUnit, badName, badTable, notFound, fileLocked, fileHeld, badChain, nameTaken, noSlot, diskFull, endOfFile, truncated, lostChain, noDevice, badRequest, badLength}
+use Rattle.layout.specs.Status.{success, endReached, badImage, badHeader, badChannel, badCommand, notServed, channelOpen, channelClosed, writeOnly, readOnly, writeProtected, badDevice, badUnit, badName, badTable, notFound, fileLocked, fileHeld, badChain, nameTaken, noSlot, diskFull, endOfFile, truncated, lostChain, noDevice, badRequest, badLength}
 use Rattle.layout.proofs.Check.{check-yes, by-check}
 use Rattle.layout.proofs.Members.{passes, passes-each, member-apart}
 use Rattle.layout.proofs.Search.{all-fails, all-at}
@@ -28,12 +24,12 @@ use Rattle.rules.proofs.Ends.{by-command}
 use Rattle.rules.proofs.Does.{does}
 use Rattle.theory.specs.Never161.{EveryStatus, Never161}
 use Rattle.theory.proofs.Served.{cio-on}
-use Rattle.theory.proofs.Demand1.{demand1}
+use Rattle.theory.proofs.Demand1.{demand1, on-any}
 
 -- the numbers that a call can answer, all of them
 unfoldable pub numbers : List ℕ
 numbers =
-    success ∷ badImage ∷ badHeader ∷ badChannel ∷ badCommand ∷ notServed ∷ channelOpen ∷ channelClosed ∷ writeOnly ∷ readOnly ∷ writeProtected ∷ badDevice ∷ badUnit ∷ badName ∷ badTable ∷ notFound ∷ fileLocked ∷ fileHeld ∷ badChain ∷ nameTaken ∷ noSlot ∷ diskFull ∷ endOfFile ∷ truncated ∷ lostChain ∷ noDevice ∷ badRequest ∷ badLength ∷ []
+    success ∷ endReached ∷ badImage ∷ badHeader ∷ badChannel ∷ badCommand ∷ notServed ∷ channelOpen ∷ channelClosed ∷ writeOnly ∷ readOnly ∷ writeProtected ∷ badDevice ∷ badUnit ∷ badName ∷ badTable ∷ notFound ∷ fileLocked ∷ fileHeld ∷ badChain ∷ nameTaken ∷ noSlot ∷ diskFull ∷ endOfFile ∷ truncated ∷ lostChain ∷ noDevice ∷ badRequest ∷ badLength ∷ []
 
 -- all of a list's numbers are among them
 abbrev Within : List ℕ → Type 0
@@ -64,26 +60,18 @@ module _ (Q : ℕ → Type 0) (q : (n : ℕ) → member n numbers ≡ true → Q
   of {n = n} l w m = q n (passes-each _ l w n m)
 
   -- of one that an image that is served answers from such a list, and any other image with its own refusal
-  on-any : (l : List ℕ) {status : ℕ} (list : List ℕ) → Within list → (Answers l → member status list ≡ true) → ((n : ℕ) → Unserved l n → status ≡ n) → Q status
+  answered : (l : List ℕ) {status : ℕ} (list : List ℕ) → Within list → (Answers l → member status list ≡ true) → ((n : ℕ) → Unserved l n → status ≡ n) → Q status
   unfolding member numbers
-  on-any l {status = status} list w on off = go (servedAs l) refl
-    where
-      refused : (n : ℕ) → (n ≡ badImage) ⊎ (n ≡ badHeader) → Q n
-      refused n (inl e) = rw e (q badImage refl)
-      refused n (inr e) = rw e (q badHeader refl)
-
-      go : (v : Served) → servedAs l ≡ v → Q status
-      go (As m) e = of list w (on (demand1 .answers l m e))
-      go (Not n) e = rw (off n (demand1 .unserved l n e)) (refused n (demand1 .reasons l .only n e))
+  answered l list w on = on-any Q (q badImage refl) (q badHeader refl) l (λ a. of list w (on a))
 
   pub every-status : EveryStatus Q
   unfolding passes member numbers
   every-status = record {
-    calls = λ l t c text b. on-any l (answers c) (answers-within c) (λ a. a .calls t c text b) (λ n u. u .calls t c text b);
-    recoveries = λ l protected s. on-any l recoveryAnswers refl (λ a. a .recoveries protected s) (λ n u. u .recoveries protected s);
-    sectors = λ l protected device unit command k b. on-any l sectorAnswers refl (λ a. a .sectors protected device unit command k b) (λ n u. u .sectors protected device unit command k b);
-    thinGets = λ l c b. on-any l getAnswers refl (λ a. a .thinGets c b) (λ n u. u .thinGets c b);
-    thinPuts = λ l protected c b. on-any l putAnswers refl (λ a. a .thinPuts protected c b) (λ n u. u .thinPuts protected c b);
+    calls = λ l t c text b. answered l (answers c) (answers-within c) (λ a. a .calls t c text b) (λ n u. u .calls t c text b);
+    recoveries = λ l protected s. answered l recoveryAnswers refl (λ a. a .recoveries protected s) (λ n u. u .recoveries protected s);
+    sectors = λ l protected device unit command k b. answered l sectorAnswers refl (λ a. a .sectors protected device unit command k b) (λ n u. u .sectors protected device unit command k b);
+    thinGets = λ l c b. answered l getAnswers refl (λ a. a .thinGets c b) (λ n u. u .thinGets c b);
+    thinPuts = λ l protected c b. answered l putAnswers refl (λ a. a .thinPuts protected c b) (λ n u. u .thinPuts protected c b);
     headers = λ l protected. of headerAnswers refl (demand1 .headers l protected);
   }
 

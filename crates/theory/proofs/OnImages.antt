@@ -7,6 +7,7 @@ use lib.ListN.{length}
 use Rattle.layout.specs.declared.density.Medium.{Medium}
 use Rattle.layout.specs.Image.{Geometry, geometryOf, view, imageOf}
 use Rattle.layout.specs.Header.{servedAs}
+use Rattle.layout.specs.Status.{succeeds}
 use Rattle.rules.specs.Commands.{Effect}
 use Rattle.rules.specs.Cio.{Outcome, ImageOutcome, leaves}
 use Rattle.rules.specs.Lists.{Call, cioOf, recoveryOf, System, run, after, outcomeOf, perform, disks, ImageTable, recoveringOn, outcomeOn, afterOn, systemOf, leftOn, images, IsServed, ImageSound}
@@ -88,7 +89,7 @@ module _ (m : Medium) where
     formats = λ x w n c text b e q.
         let call = cioOf c text b in
         let s = left-after call x w in
-        record { served = served-after call x w; sound = subst (λ (o : Outcome). Sound g (o .effect .disk) (o .effect .table)) (sym s) (formatted-sound g (systemOf g x) n c text b e (sym (ap (λ (o : Outcome). o .effect .status) s) ∙ q)) };
+        record { served = served-after call x w; sound = subst (λ (o : Outcome). Sound g (o .effect .disk) (o .effect .table)) (sym s) (formatted-sound g (systemOf g x) n c text b e (ap (λ (o : Outcome). succeeds (o .effect .status)) (sym s) ∙ q)) };
   }
 
 -- demands 2 and 3 on images

@@ -21,7 +21,7 @@ use Rattle.layout.specs.Status.{writeProtected}
 use Rattle.layout.proofs.Check.{by-check, by-served}
 use Rattle.layout.proofs.Logic.{and-right}
 use Rattle.layout.proofs.Members.{member-apart}
-use Rattle.rules.specs.Get.{GetOutcome, fill}
+use Rattle.rules.specs.Get.{GetOutcome, fill, orEndReached}
 use Rattle.rules.specs.Put.{PutOutcome, sent, putFrom, puts}
 use Rattle.rules.specs.Cio.{Outcome, ImageOutcome, cioCall}
 use Rattle.rules.specs.Recovery.{ImageRecovered, recoverCall}
@@ -33,6 +33,7 @@ use Rattle.rules.specs.Demand1.{getAnswers}
 use Rattle.rules.specs.Protected.{AllProtected, Protects, OnlyProtected}
 use Rattle.rules.proofs.Acts.{Kind, plainly, Why, plain, barred, no-table, no-chain, no-read, no-write, put-plain, put-barred, put-no-table, put-broken, PutEnds, put-refuses, put-none, put-some, Ends, refuses, reads, reads-none, writes, writes-none, frees, closes, drops, opens, rewrites, makes, tells, renames, deletes, locks, unlocks, formats, restores}
 use Rattle.rules.proofs.Ends.{get-ends, put-ends, ends}
+use Rattle.rules.proofs.Reached.{by-end}
 use Rattle.theory.proofs.Served.{kept-image, unserved-apart}
 use Rattle.theory.proofs.Answers.{by-fill, by-put-from, get-answers}
 
@@ -129,16 +130,19 @@ module _ (g : Geometry) (d : Disk) where
   why-other (no-write i s p z r h) q e = omega arith
 
   -- bytes read, and bytes added
-  read-other : (f : Form) (s : ℕ) (p : Place) (b : List ℕ) → Other (fill g f d s p b .got .status)
-  read-other Characters s p b = by-fill g Other (λ e. omega arith) Characters (λ e. omega arith) (λ e. omega arith) (λ e. omega arith) d s p b
-  read-other Record s p b = by-fill g Other (λ e. omega arith) Record (λ e. omega arith) (λ e. omega arith) (λ e. omega arith) d s p b
+  read-other : (f : Form) (s : ℕ) (p : Place) (b : List ℕ) (st : State) → Other (orEndReached g d b st (fill g f d s p b .got .status))
+  read-other f s p b st = by-end g d b st Other _ (filled-other f) (λ _ _ _ e. omega arith)
+    where
+      filled-other : (f : Form) → Other (fill g f d s p b .got .status)
+      filled-other Characters = by-fill g Other (λ e. omega arith) Characters (λ e. omega arith) (λ e. omega arith) (λ e. omega arith) d s p b
+      filled-other Record = by-fill g Other (λ e. omega arith) Record (λ e. omega arith) (λ e. omega arith) (λ e. omega arith) d s p b
 
   added-other : (b : List ℕ) (s p : ℕ) → Other (putFrom g b d s p 0 .added .status)
   added-other b s p = by-put-from g Other (λ e. omega arith) (λ e. omega arith) b d s p 0
 
   ends-other : {t : Table} {k : Kind} {c : Call} {o : Outcome} → Ends g d t k c o → protectedIn c ≡ false → Other (o .effect .status)
   ends-other (refuses n w m) q = why-other w q
-  ends-other (reads {f = f} {b = b} s k o l h) q = read-other f s _ b
+  ends-other (reads {f = f} {b = b} s k o l h) q = read-other f s _ b _
   ends-other (reads-none o n) q = λ e. omega arith
   ends-other (writes {f = f} {b = b} s p h) q = added-other (sent f b) s p
   ends-other (writes-none o n) q = λ e. omega arith

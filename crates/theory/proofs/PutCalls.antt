@@ -14,7 +14,7 @@ use Rattle.layout.specs.Image.{Geometry}
 use Rattle.layout.specs.Directory.{name}
 use Rattle.layout.specs.File.{file}
 use Rattle.layout.specs.Channels.{stateOf}
-use Rattle.layout.specs.Status.{success, writeProtected}
+use Rattle.layout.specs.Status.{Succeeds, writeProtected}
 use Rattle.rules.specs.Cio.{Asks}
 use Rattle.rules.specs.Lists.{Call, cioOf, recoveryOf, System, after, perform, run, disks, outcomeOf, events}
 use Rattle.rules.specs.Sound.{Sound}
@@ -31,9 +31,9 @@ use Rattle.theory.proofs.Written.{open-written, put-answers, put-call}
 use Rattle.theory.proofs.Shut.{close-call, close-stays, find-is}
 use Rattle.theory.proofs.Channel.{QuietCall, quiet-state, quiet-keeps}
 
-module _ (g : Geometry) (roomy : 0 < g .room) (i s : ℕ) (z : i < 8) (w : ℕ → ℕ) where
+module _ (g : Geometry) (roomy : 0 < g .room) (i s : ℕ) (z : i < 8) (w : ℕ → ℕ) (before : List ℕ) where
   -- a call that is no put on the channel and does not close it
-  quiet-written : (c : Call) (r : List ℕ) (y : System) → Written g i s w r y → QuietCall i c (y .table) (perform g c y .status) → Written g i s w r (after (perform g c y))
+  quiet-written : (c : Call) (r : List ℕ) (y : System) → Written g i s w before r y → QuietCall i c (y .table) (perform g c y .status) → Written g i s w before r (after (perform g c y))
   quiet-written c r y h q =
       let m = writes-holds (stateOf (y .table) i) s (h .last) (h .writes) in
       let (p, n) = quiet-keeps g roomy y (h .sound) i z s m c q in
@@ -43,32 +43,33 @@ module _ (g : Geometry) (roomy : 0 < g .room) (i s : ℕ) (z : i < 8) (w : ℕ �
         writes = quiet-state g roomy y (h .sound) i z s m c q ∙ h .writes;
         named = bytes-same (perform g c y .disk) s w (λ j l. n j l ∙ same-bytes (y .disk) s w (h .named) j l);
         bytes = stays-file g (y .disk) (perform g c y .disk) s p ∙ h .bytes;
+        used = λ u. rw (p .sectors (h .last) (writer g (y .disk) (y .table) (h .sound) i s (h .last) z (h .writes) .inside)) (h .used u);
       }
 
   -- a get from the channel finds it writing
-  not-reading : (y : System) (r : List ℕ) → Written g i s w r y → (x k o l : ℕ) → stateOf (y .table) i ≡ Reading x k o l → ⊥
+  not-reading : (y : System) (r : List ℕ) → Written g i s w before r y → (x k o l : ℕ) → stateOf (y .table) i ≡ Reading x k o l → ⊥
   not-reading y r h x k o l e = let f = h .writes in let v : _≡_ {A = ℕ} 0 1 = cc in omega arith
 
-  call-written : (c : Call) (r : List ℕ) (y : System) → (On i Close c → perform g c y .status ≡ writeProtected) → Written g i s w r y → Written g i s w (r ++ putBy i c (outcomeOf g c y)) (after (perform g c y))
+  call-written : (c : Call) (r : List ℕ) (y : System) → (On i Close c → perform g c y .status ≡ writeProtected) → Written g i s w before r y → Written g i s w before (r ++ putBy i c (outcomeOf g c y)) (after (perform g c y))
   unfolding putBy
   call-written (cioOf c text b) r y n h = go (putting i c text b)
     where
       call : Call
       call = cioOf c text b
 
-      go : ((f : Form) × On i (Moves (Put f)) call) ⊎ NoPut i c text b → Written g i s w (r ++ putBy i call (outcomeOf g call y)) (after (perform g call y))
-      go (inl (f, q)) = rw (put-on i c text b q (outcomeOf g call y)) (put-call g roomy i s z w r y h f c text b q .0)
+      go : ((f : Form) × On i (Moves (Put f)) call) ⊎ NoPut i c text b → Written g i s w before (r ++ putBy i call (outcomeOf g call y)) (after (perform g call y))
+      go (inl (f, q)) = rw (put-on i c text b q (outcomeOf g call y)) (put-call g roomy i s z w before r y h f c text b q .0)
       go (inr q) = rw (q .put (outcomeOf g call y), append-nil) (quiet-written call r y h (record { closes = λ e k. n (k, e); gets = λ f e k x p o l. not-reading y r h x p o l; puts = λ f e k x p _. q .none (k, e) }))
   call-written (recoveryOf protected x) r y n h = rw append-nil (quiet-written (recoveryOf protected x) r y h tt)
 
-  calls-written : (cs : List Call) (r : List ℕ) (y : System) → StaysOpen i (events (disks g) cs y) → Written g i s w r y → Written g i s w (r ++ putBytes i (events (disks g) cs y)) (run (disks g) cs y)
+  calls-written : (cs : List Call) (r : List ℕ) (y : System) → StaysOpen i (events (disks g) cs y) → Written g i s w before r y → Written g i s w before (r ++ putBytes i (events (disks g) cs y)) (run (disks g) cs y)
   unfolding putBytes run events
   calls-written [] r y n h = rw append-nil h
   calls-written (c ∷ cs) r y (n, ns) h = rw append-assoc at (calls-written cs (r ++ putBy i c (outcomeOf g c y)) (after (perform g c y)) ns (call-written c r y n h))
 
--- an open for output that answers 1
+-- an open for output that succeeds
 pub opened-output : (g : Geometry) (x : System) → Sound g (x .disk) (x .table) → (c : Block) (text b : List ℕ) → Asks c (Files Open) → c .direction ≡ 8
-    → let e = perform g (cioOf c text b) x in e .status ≡ success → OpenedOutput g c text (after e)
+    → let e = perform g (cioOf c text b) x in Succeeds (e .status) → OpenedOutput g c text (after e)
 unfolding outcomeOf
 opened-output g x a c text b e f o =
     let w = open-written g x a (ends-as g (x .disk) (x .table) c text b _ e) f o in
@@ -85,26 +86,33 @@ opened-output g x a c text b e f o =
     }
 
 -- any calls that do not close it
-pub put-calls : (g : Geometry) → 0 < g .room → (y : System) → Sound g (y .disk) (y .table) → (i s : ℕ) → i < 8 → WritesTo (y .table) i s → (cs : List Call) → StaysOpen i (events (disks g) cs y) → StoredOver g (disks g) y i s cs
-unfolding putBy
-put-calls g roomy y a i s z (p, e) cs n = record {
-  writes = (h .last, h .writes);
-  stands = writer g (x .disk) (x .table) (h .sound) i s (h .last) z (h .writes) .stands;
-  bytes = h .bytes;
-  named = h .named;
-  next = put-answers g roomy i s z w _ x h;
-  whole = λ f c text b q k. put-on i c text b q (outcomeOf g (cioOf c text b) x) ∙ put-call g roomy i s z w _ x h f c text b q .1 k;
-  stays = close-stays g i s z w _ x h;
-  closes = λ c q o.
-      let (k, u) = close-call g i s z w (file g (y .disk) s ++ putBytes i (events (disks g) cs y)) x h c q o in
-      (k, record { stands = u .stands; bytes = u .bytes ∙ sym (h .bytes) }, u .named, u .flagged);
-}
-  where
-    w : ℕ → ℕ
-    w = name (y .disk) s
+module _ (g : Geometry) (roomy : 0 < g .room) (y : System) (a : Sound g (y .disk) (y .table)) (i s : ℕ) (z : i < 8) (o : WritesTo (y .table) i s) (cs : List Call) (n : StaysOpen i (events (disks g) cs y)) where
+  abbrev w : ℕ → ℕ
+  w = name (y .disk) s
 
-    x : System
-    x = run (disks g) cs y
+  abbrev x : System
+  x = run (disks g) cs y
 
-    h : Written g i s w (file g (y .disk) s ++ putBytes i (events (disks g) cs y)) x
-    h = calls-written g roomy i s z w cs (file g (y .disk) s) y n (record { sound = a; last = p; writes = e; named = bytes-same (y .disk) s w (λ j l. refl); bytes = refl })
+  abbrev put : List ℕ
+  put = putBytes i (events (disks g) cs y)
+
+  pub put-written : Written g i s (name (y .disk) s) (file g (y .disk) s) (putBytes i (events (disks g) cs y)) (run (disks g) cs y)
+  put-written = calls-written g roomy i s z w (file g (y .disk) s) cs [] y n (record { sound = a; last = o .0; writes = o .1; named = bytes-same (y .disk) s w (λ j l. refl); bytes = sym (append-nil (file g (y .disk) s)); used = λ u. absurd (u refl) })
+
+  pub put-calls : StoredOver g (disks g) y i s cs
+  unfolding putBy
+  put-calls =
+      let h = put-written in
+      let b = file g (y .disk) s in
+      record {
+        writes = (h .last, h .writes);
+        stands = writer g (x .disk) (x .table) (h .sound) i s (h .last) z (h .writes) .stands;
+        bytes = h .bytes;
+        named = h .named;
+        next = put-answers g roomy i s z w b put x h;
+        whole = λ f c text b' q k. put-on i c text b' q (outcomeOf g (cioOf c text b') x) ∙ put-call g roomy i s z w b put x h f c text b' q .1 k;
+        stays = close-stays g i s z w b put x h;
+        closes = λ c q e.
+            let (k, u) = close-call g i s z w b put x h c q e in
+            (k, record { stands = u .stands; bytes = u .bytes ∙ sym (h .bytes) }, u .named, u .flagged);
+      }

@@ -14,7 +14,7 @@ use Rattle.layout.specs.Basics.{if}
 use Rattle.layout.specs.Image.{Disk, Geometry}
 use Rattle.layout.specs.Volume.{dataSector, free, lowest}
 use Rattle.layout.specs.File.{inUse, give}
-use Rattle.layout.specs.Status.{success, diskFull}
+use Rattle.layout.specs.Status.{success, succeeds, Fails, diskFull}
 use Rattle.layout.proofs.Give.{give-table}
 use Rattle.layout.proofs.Data.{data-facts}
 use Rattle.layout.proofs.Good.{Good, lowest-free}
@@ -31,9 +31,9 @@ pub record Walks (I : List ℕ → List ℕ → Disk → ℕ → Type 0) (b l xs
   pub status : o .added .status ≡ if (eqb fitted (length xs)) success diskFull
   pub holds : I (b ++ take fitted xs) (l ++ o .given) (o .disk) (o .added .last)
 
--- fewer fitted where it does not answer 1
-pub walk-short : {I : List ℕ → List ℕ → Disk → ℕ → Type 0} {b l xs : List ℕ} {n : ℕ} {o : Adds} (w : Walks I b l xs n o) → o .added .status ≢ success → w .fitted ≢ length xs
-walk-short {xs = xs} w h e = h (w .status ∙ rw (eq-eqb (w .fitted) (length xs) e))
+-- fewer fitted where it does not succeed
+pub walk-short : {I : List ℕ → List ℕ → Disk → ℕ → Type 0} {b l xs : List ℕ} {n : ℕ} {o : Adds} (w : Walks I b l xs n o) → Fails (o .added .status) → w .fitted ≢ length xs
+walk-short {xs = xs} w h e = h (ap succeeds (w .status) ∙ rw (eq-eqb (w .fitted) (length xs) e))
 
 -- what is kept by a byte added to the last sector, and by the lowest free sector given out behind it, holds behind them all
 module _ (g : Geometry) (roomy : 0 < g .room) (s : ℕ) (z : s < 64) (I : List ℕ → List ℕ → Disk → ℕ → Type 0)

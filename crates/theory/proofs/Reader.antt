@@ -13,9 +13,10 @@ use Rattle.rules.specs.declared.Transfer.the-variants.{Get}
 use Rattle.rules.specs.declared.Command.the-variants.{Moves}
 use Rattle.layout.specs.Image.{Geometry}
 use Rattle.layout.specs.Channels.{stateOf}
+use Rattle.rules.specs.Get.{orEndReached}
 use Rattle.rules.specs.Lists.{cioOf, System, after, outcomeOf}
 use Rattle.rules.specs.Sound.{Sound}
-use Rattle.rules.specs.Demand2.{On, offered, leftOf, HandsOut}
+use Rattle.rules.specs.Demand2.{On, offered, leftOf, answered, LastInUse, HandsOut}
 use Rattle.rules.proofs.Does.{does-get}
 use Rattle.theory.proofs.Reading.{rest}
 use Rattle.theory.proofs.SoundChan.{state-at}
@@ -40,13 +41,14 @@ left-over r b = go (decLt (length r) (length b))
     go (no h) = rw (length-take-le (length b) r (omega arith), drop-length b) (sym (drop-of-length-le b {i = length r} (omega arith)))
 
 -- one from it, as a call on channel i
-pub get-call : (g : Geometry) (s i : ℕ) → i < 8 → (f : Form) (c : Block) (text b : List ℕ) → On i (Moves (Get f)) (cioOf c text b) → (r : List ℕ) (y : System) → Reads g s r y i
-    → let o = outcomeOf g (cioOf c text b) y in HandsOut f r b o × Reads g s (leftOf f (length b) r) (after (o .effect)) i × (o .effect .disk ≡ y .disk)
+pub get-call : (g : Geometry) (s i : ℕ) → i < 8 → (f : Form) (c : Block) (text b : List ℕ) → On i (Moves (Get f)) (cioOf c text b) → (r : List ℕ) (y : System) → Reads g s r y i → (sure : Type 0) → (sure → LastInUse g (y .disk) s)
+    → let o = outcomeOf g (cioOf c text b) y in HandsOut g (y .disk) i sure f r b o × Reads g s (leftOf f (length b) r) (after (o .effect)) i × (o .effect .disk ≡ y .disk)
 unfolding outcomeOf
-get-call g s i z form c text b (e, f) r y h =
+get-call g s i z form c text b (e, f) r y h sure u =
     let w = rw (h .bytes) at (get-on g (y .disk) (y .table) (h .sound) i z s (h .sector) (h .offset) (h .left) (h .reads) form b) in
+    let st = state-at g (y .disk) (y .table) (h .sound) i z _ ∙ w .state in
     rw (does-get g (y .disk) (y .table) c text b (record { small = rw e z; command = f }) (ap (stateOf (y .table)) e ∙ h .reads), e) (
-      record { status = w .status; count = w .count; buffer = w .buffer ∙ rw (left-over (offered form r) b) },
-      record { sound = w .sound; sector = w .sector; offset = w .offset; left = w .left; reads = state-at g (y .disk) (y .table) (h .sound) i z _ ∙ w .state; bytes = w .rests },
+      record { status = w .status ∙ ap (λ x. orEndReached g (y .disk) b x (answered form (length b) r)) (sym st); count = w .count; buffer = w .buffer ∙ rw (left-over (offered form r) b); last = w .last; reached = λ q. w .reached (u q) },
+      record { sound = w .sound; sector = w .sector; offset = w .offset; left = w .left; reads = st; bytes = w .rests },
       refl,
     )

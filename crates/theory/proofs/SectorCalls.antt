@@ -14,7 +14,7 @@ use Rattle.layout.specs.declared.Served.the-variants.{As}
 use Rattle.layout.specs.Image.{Sector, Disk, Geometry, geometryOf, view, imageOf, writeByte, writeRun}
 use Rattle.layout.specs.Header.{servedAs}
 use Rattle.layout.proofs.Header.{served-whole}
-use Rattle.layout.specs.Status.{success}
+use Rattle.layout.specs.Status.{success, Succeeds}
 use Rattle.layout.proofs.Check.{by-check, by-served, check-no}
 use Rattle.layout.proofs.Logic.{and-left, and-right}
 use Rattle.layout.proofs.Image.{Lawful, image-length}
@@ -58,7 +58,7 @@ module _ (g : Geometry) (d : Disk) where
   read-is protected k b low high n = check-no {A = SectorOutcome} _ _ _ refl ∙ check-no {A = SectorOutcome} _ _ _ (rw (read-request k low high)) ∙ check-no {A = SectorOutcome} _ _ _ (rw no-write) ∙ check-no {A = SectorOutcome} _ _ _ (rw (eq-eqb (length b) (g .size k) n)) ∙ check-no {A = SectorOutcome} _ _ _ no-write
 
   module _ (protected : Bool) (device unit command k : ℕ) (b : List ℕ) where
-    -- what a call that answers 1 has passed
+    -- what a call that succeeds has passed
     record Passed (o : SectorOutcome) : Type 0 where
       low : 1 ≤ k
       high : k ≤ 720
@@ -66,16 +66,16 @@ module _ (g : Geometry) (d : Disk) where
       write : isWrite command ≡ true → o ≡ sectorOutcome success (g .size k) (writeRun d k 0 b) b
       read : isWrite command ≡ false → o ≡ sectorOutcome success (g .size k) d (valuesFrom (d k) (g .size k) 0)
 
-    passed : let o = sector g d protected device unit command k b in o .reply .status ≡ success → Passed o
+    passed : let o = sector g d protected device unit command k b in Succeeds (o .reply .status) → Passed o
     unfolding sector
-    passed = by-check P _ _ _ (λ _ h. absurd (omega arith)) λ _. by-check P _ _ _ (λ _ h. absurd (omega arith)) λ r. by-check P _ _ _ (λ _ h. absurd (omega arith)) λ _. by-check P _ _ _ (λ _ h. absurd (omega arith)) λ n.
+    passed = by-check P _ _ _ (λ _ h. absurd (true≢false (sym h))) λ _. by-check P _ _ _ (λ _ h. absurd (true≢false (sym h))) λ r. by-check P _ _ _ (λ _ h. absurd (true≢false (sym h))) λ _. by-check P _ _ _ (λ _ h. absurd (true≢false (sym h))) λ n.
         let (low, high) = request-sector command k (not-false (isRequest command k) r) in
         let size = eqb-true (length b) (g .size k) (not-false (eqb (length b) (g .size k)) n) in
         by-check P _ _ _ (λ t _. record { low = low; high = high; size = size; write = λ _. refl; read = λ u. absurd (true≢false (sym t ∙ u)) })
         λ t _. record { low = low; high = high; size = size; write = λ u. absurd (true≢false (sym u ∙ t)); read = λ _. refl }
       where
         P : SectorOutcome → Type 0
-        P o = o .reply .status ≡ success → Passed o
+        P o = Succeeds (o .reply .status) → Passed o
 
     keeps : isWrite command ≡ false → sector g d protected device unit command k b .disk ≡ d
     unfolding sector
@@ -124,13 +124,13 @@ unfolding sectorCall
 sector-calls = record {
   writes = λ l m w protected device unit command k b t.
       let g = geometryOf m in
-      let P : ImageSectorOutcome → Type 0 = λ o. o .reply .status ≡ success → Wrote m l k b o in
+      let P : ImageSectorOutcome → Type 0 = λ o. Succeeds (o .reply .status) → Wrote m l k b o in
       subst P (sym (sector-on l m w protected device unit command k b)) (λ h.
       let p = passed g (view g l) protected device unit command k b h in
       rw (p .write t) (wrote m l w k b (p .low) (p .high) (p .size)));
   reads = λ l m w protected device unit command k b t.
       let g = geometryOf m in
-      let P : ImageSectorOutcome → Type 0 = λ o. o .reply .status ≡ success → (o .reply .count ≡ g .size k) × (o .buffer ≡ take (g .size k) (drop (g .start k) l)) in
+      let P : ImageSectorOutcome → Type 0 = λ o. Succeeds (o .reply .status) → (o .reply .count ≡ g .size k) × (o .buffer ≡ take (g .size k) (drop (g .start k) l)) in
       subst P (sym (sector-on l m w protected device unit command k b)) (λ h.
       let p = passed g (view g l) protected device unit command k b h in
       rw (p .read t) (refl, sym (sector-part g (laws l m w) l (served-whole l m w .1) k (g .size k) (p .low) (p .high) (omega arith))));

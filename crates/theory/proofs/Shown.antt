@@ -1,5 +1,5 @@
 -- Showing: its part is what a get with sectors left delivers from that sector.
-use mathlib.Core.Bool.{true, false, not, _&&_, _||_}
+use mathlib.Core.Bool.{true, false, _&&_, _||_}
 use mathlib.Core.List.{List, _∷_, _++_, append-nil}
 use mathlib.Core.Logic.{_≢_}
 use mathlib.Core.Path.{_≡_, refl, sym, ap, _∙_}
@@ -19,13 +19,15 @@ use Rattle.layout.specs.Header.{servedAs}
 use Rattle.layout.proofs.Header.{served-whole}
 use Rattle.layout.specs.File.{inUse, fits}
 use Rattle.layout.specs.Status.{success, badChain}
-use Rattle.layout.proofs.Check.{check-no}
 use Rattle.layout.proofs.Logic.{and-left, or-right}
 use Rattle.layout.proofs.Image.{values-length}
 use Rattle.layout.proofs.Chain.{fits-pos}
+use Rattle.rules.specs.declared.Form.the-variants.{Characters}
 use Rattle.rules.specs.declared.Seek.the-variants.{Ready, Broken}
-use Rattle.rules.specs.Get.{GetOutcome, place, reads, gets, hasByte, seek, readFrom, getFrom, fill, readable, readOn, getOn}
+use Rattle.rules.specs.Get.{place, reads, gets, hasByte, seek, readFrom, getFrom, fill, readable, tellsEnd, getOn}
 use Rattle.rules.specs.Showing.{enters, shows, shownLength, shownPart}
+use Rattle.rules.proofs.Reached.{or-refused, gets-some}
+use Rattle.rules.proofs.Steps.{seek-ready}
 use Rattle.rules.proofs.Showing as told
 use Rattle.rules.proofs.Showing.{enters-true, shows-is, start-yes, length-yes, shown-none, shown-within}
 use Rattle.theory.specs.Shown.{AtEdge, Gives, Stops, ShownOn, Shown}
@@ -35,11 +37,6 @@ use Rattle.theory.proofs.Served.{laws, thin-get-on}
 
 module _ (g : Geometry) (d : Disk) (s : ℕ) where
   -- a byte of the entered sector is the next
-  seek-here : (k o l : ℕ) → hasByte g d k o ≡ true → seek g d s k o l ≡ Ready (place k o l)
-  unfolding seek
-  seek-here k o zero h = rw h
-  seek-here k o (suc l) h = rw (h, seek)
-
   has-byte : (k o : ℕ) → k ≢ 0 → o < inUse g (d k) → hasByte g d k o ≡ true
   unfolding hasByte
   has-byte k o n h = rw (ne-eqb k 0 n, lt-ltb o (inUse g (d k)) h)
@@ -56,7 +53,7 @@ module _ (g : Geometry) (d : Disk) (s : ℕ) where
       let q : o + 1 + n ≡ o + suc n = omega arith in
       let len : length vs ≡ n = values-length (d k) n (o + 1) in
       let f : take (i + 1) b' ++ (vs ++ drop (i + 1 + n) b') ≡ take i b ++ x ∷ (vs ++ drop (i + suc n) b) = rw len at (one-more b vs i x (omega arith)) in
-      step n i k o l b (seek-here k o l (has-byte k o z (omega arith)))
+      step n i k o l b (seek-ready g d s k o l (has-byte k o z (omega arith)))
       ∙ get-within n k (o + 1) l (i + 1) b' z (omega arith) (rw length-set (omega arith))
       ∙ ap (λ m. reads success m (place k (o + 1 + n) l) (take (i + 1) b' ++ (vs ++ drop (i + 1 + n) b'))) p
       ∙ ap (λ m. reads success (i + suc n) (place k m l) (take (i + 1) b' ++ (vs ++ drop (i + 1 + n) b'))) q
@@ -91,19 +88,19 @@ module _ (g : Geometry) (d : Disk) (s : ℕ) where
     edge-stop zero b f z = absurd (omega arith)
     edge-stop (suc i) b f z = rw (broken f, readFrom)
 
-    on-edge : (b : List ℕ) → 0 < length b → getOn g d (Reading s j o (suc n)) b ≡ gets s (getFrom g d s (length b) 0 (place j o (suc n)) b)
-    unfolding readOn fill
-    on-edge b z = check-no {A = GetOutcome} _ _ _ (ne-eqb (length b) 0 (omega arith)) ∙ check-no {A = GetOutcome} _ _ _ (ap not (e .tested))
+    on-edge : (b : List ℕ) → 0 < length b → getOn g d (Reading s j o (suc n)) b ≡ tellsEnd g d b (gets s (getFrom g d s (length b) 0 (place j o (suc n)) b))
+    unfolding fill
+    on-edge b z = gets-some g d s j o (suc n) Characters b (λ q. omega arith) (e .tested)
 
     -- from the sector's first byte
-    first-get : (b : List ℕ) → 0 < length b → fits g (d k) s k ≡ true → getOn g d (Reading s k 0 n) b ≡ gets s (getFrom g d s (length b) 0 (place k 0 n) b)
-    unfolding readOn fill
-    first-get b z f = check-no {A = GetOutcome} _ _ _ (ne-eqb (length b) 0 (omega arith)) ∙ check-no {A = GetOutcome} _ _ _ (ap not (first-tested f))
+    first-get : (b : List ℕ) → 0 < length b → fits g (d k) s k ≡ true → getOn g d (Reading s k 0 n) b ≡ tellsEnd g d b (gets s (getFrom g d s (length b) 0 (place k 0 n) b))
+    unfolding fill
+    first-get b z f = gets-some g d s k 0 n Characters b (λ q. omega arith) (first-tested f)
 
     enter-edge : (b : List ℕ) → 0 < length b → fits g (d k) s k ≡ true → getOn g d (Reading s j o (suc n)) b ≡ getOn g d (Reading s k 0 n) b
-    enter-edge b z f = on-edge b z ∙ ap (gets s) (edge-get (length b) b f z) ∙ sym (first-get b z f)
+    enter-edge b z f = on-edge b z ∙ ap (λ r. tellsEnd g d b (gets s r)) (edge-get (length b) b f z) ∙ sym (first-get b z f)
 
-    get-edge : (b : List ℕ) → 0 < length b → length b ≤ inUse g (d k) → fits g (d k) s k ≡ true → Gives (valuesFrom (d k) (length b) 0) s k n b (getOn g d (Reading s j o (suc n)) b)
+    get-edge : (b : List ℕ) → 0 < length b → length b ≤ inUse g (d k) → fits g (d k) s k ≡ true → Gives g d (valuesFrom (d k) (length b) 0) s k n b (getOn g d (Reading s j o (suc n)) b)
     unfolding gets
     get-edge b z h f =
         let r = edge-get (length b) b f z ∙ get-within (length b) k 0 n 0 b (fits-pos g (d k) s k f) (omega arith) (omega arith) in
@@ -114,7 +111,7 @@ module _ (g : Geometry) (d : Disk) (s : ℕ) where
 
     stop-edge : (b : List ℕ) → 0 < length b → fits g (d k) s k ≡ false → Stops (Reading s j o (suc n)) b (getOn g d (Reading s j o (suc n)) b)
     unfolding gets
-    stop-edge b z f = rw (on-edge b z, edge-stop (length b) b f z) (record { status = refl; count = refl; state = refl; buffer = refl })
+    stop-edge b z f = rw (on-edge b z, edge-stop (length b) b f z) (record { status = or-refused g d b _ (λ q. omega arith); count = refl; state = refl; buffer = refl })
 
 -- the first of several values
 take-values : (f : ℕ → ℕ) (n m j : ℕ) → n ≤ m → take n (valuesFrom f m j) ≡ valuesFrom f n j

@@ -1,6 +1,6 @@
 -- A file that its channel closed: it stands with its name and its bytes, and is found.
 use mathlib.Core.Bool.{true, false}
-use mathlib.Core.List.{List}
+use mathlib.Core.List.{List, [], _++_}
 use mathlib.Core.Logic.{_≢_}
 use mathlib.Core.Path.{_≡_, refl, ap, _∙_}
 use Prim.Native.Nat.{ℕ, _<_}
@@ -18,24 +18,26 @@ use Rattle.layout.specs.Channels.{stateOf, withState}
 use Rattle.layout.specs.Status.{success, writeProtected}
 use Rattle.rules.specs.Lists.{Call, cioOf, recoveryOf, protectedIn, System, after, perform, outcomeOf}
 use Rattle.rules.specs.Sound.{Stands, Sound}
-use Rattle.rules.specs.Demand2.{On}
+use Rattle.rules.specs.Demand2.{On, LastInUse}
 use Rattle.rules.proofs.Does.{does-stay, does-close}
 use Rattle.theory.proofs.Standing.{stands-where, same-names, same-bytes, bytes-same}
 use Rattle.theory.proofs.Find.{find-at, find-none}
 use Rattle.theory.proofs.SlotBytes.{flag-is}
-use Rattle.theory.proofs.Delete.{mark-file, mark-name}
+use Rattle.theory.proofs.Delete.{chain-is, mark-data, mark-chain, mark-file, mark-name}
 use Rattle.theory.proofs.SoundChan.{sound-close}
-use Rattle.theory.proofs.Writer.{Written, writer}
+use Rattle.theory.proofs.Writer.{Written, writer, writer-last}
 
--- the file in slot s is closed, and has the name w and the bytes r
-pub record Shut (g : Geometry) (s : ℕ) (w : ℕ → ℕ) (r : List ℕ) (y : System) : Type 0 where
+-- the file in slot s is closed, and has the name w and the bytes b, and r behind them
+pub record Shut (g : Geometry) (s : ℕ) (w : ℕ → ℕ) (b r : List ℕ) (y : System) : Type 0 where
   pub sound : Sound g (y .disk) (y .table)
   pub stands : Stands (y .disk) s
   pub flagged : flag (y .disk) s ≡ 0x42
   pub named : sameName (y .disk) s w ≡ true
-  pub bytes : file g (y .disk) s ≡ r
+  pub bytes : file g (y .disk) s ≡ b ++ r
+  -- where r are any its last sector is not empty
+  pub last : r ≢ [] → LastInUse g (y .disk) s
 
-module _ (g : Geometry) (i s : ℕ) (z : i < 8) (w : ℕ → ℕ) (r : List ℕ) (y : System) (h : Written g i s w r y) where
+module _ (g : Geometry) (i s : ℕ) (z : i < 8) (w : ℕ → ℕ) (before r : List ℕ) (y : System) (h : Written g i s w before r y) where
   abbrev d : Disk
   d = y .disk
 
@@ -47,7 +49,7 @@ module _ (g : Geometry) (i s : ℕ) (z : i < 8) (w : ℕ → ℕ) (r : List ℕ)
   unfolding is43
   opened = let k = writer g d (y .table) (h .sound) i s (h .last) z (h .writes) in rw (lt-ltb s 64 (k .slot), eq-eqb (flag d s) 0x43 (k .opened))
 
-  shut : Shut g s w r (record { disk = shutDisk; table = withState (y .table) i Closed })
+  shut : Shut g s w before r (record { disk = shutDisk; table = withState (y .table) i Closed })
   unfolding standingFlag isSet bit
   shut =
       let k = writer g d (y .table) (h .sound) i s (h .last) z (h .writes) in
@@ -59,10 +61,15 @@ module _ (g : Geometry) (i s : ℕ) (z : i < 8) (w : ℕ → ℕ) (r : List ℕ)
         flagged = flag-is d s 0x42;
         named = bytes-same shutDisk s w (λ j l. mark-name d d beside s 0x42 (k .slot) j l ∙ same-bytes d s w (h .named) j l);
         bytes = mark-file d d beside s 0x42 (k .slot) g s false (chain g d s) (k .marks) ∙ h .bytes;
+        last = λ n x m e.
+            let l = chain-is g shutDisk s (chain g d s) (mark-chain d d beside s 0x42 (k .slot) g s false (chain g d s) (k .marks)) in
+            let on = rw l at m in
+            let same = mark-data d d beside s 0x42 (k .slot) x (k .marks .datas x on) in
+            rw same (writer-last g d s (h .last) k (h .used n) x on (rw same at e));
       }
 
   -- a close with the notch open
-  pub close-call : (c : Call) → On i Close c → protectedIn c ≡ false → (perform g c y .status ≡ success) × Shut g s w r (after (perform g c y))
+  pub close-call : (c : Call) → On i Close c → protectedIn c ≡ false → (perform g c y .status ≡ success) × Shut g s w before r (after (perform g c y))
   unfolding outcomeOf
   close-call (cioOf c text b) (e, f) u =
       rw (does-close g d (y .table) c text b s (h .last) (record { on = record { small = rw e z; command = f }; state = ap (stateOf (y .table)) e ∙ h .writes; permitted = u }) opened) (refl, rw e shut)

@@ -25,7 +25,7 @@ use Rattle.layout.specs.Channels.{stateOf, withState}
 use Rattle.layout.specs.Status.{success, badChain, truncated}
 use Rattle.layout.proofs.Check.{by-check, by-served}
 use Rattle.layout.proofs.Channels.{with-id}
-use Rattle.rules.specs.Get.{GetOutcome, Reads, place, readFrom, dropRest, fill, gets, readOn}
+use Rattle.rules.specs.Get.{GetOutcome, Reads, place, readFrom, dropRest, fill, gets, getAs}
 use Rattle.rules.specs.Put.{sent, reported, puts, putOn}
 use Rattle.rules.specs.Commands.{refused}
 use Rattle.rules.specs.Cio.{Outcome, outcome, ImageOutcome, Asks, leaves, getAt, transfer, command, cio, cioCall}
@@ -34,6 +34,7 @@ use Rattle.rules.specs.Lists.{cioOf, outcomeOf}
 use Rattle.rules.specs.Thin.{ImagePutOutcome, readLent, writeLent}
 use Rattle.rules.proofs.Acts.{asks, GetEnds, get-closed, get-writing, get-broken, get-none, get-some, plainly, Why, plain, barred, no-table, Ends, refuses, reads, reads-none, writes, writes-none, frees, closes, drops}
 use Rattle.rules.proofs.Ends.{get-ends, put-ends, ends-as}
+use Rattle.rules.proofs.Reached.{or-same}
 use Rattle.rules.proofs.Steps.{read-step, fill-record, read-full}
 use Rattle.theory.proofs.Adding.{adds-leave, put-leaves}
 use Rattle.theory.proofs.Refusals.{Kept, unchanged}
@@ -93,14 +94,14 @@ module _ (g : Geometry) (d : Disk) where
   get-full (get-writing s p) = λ e. absurd (omega arith)
   get-full (get-broken s k o l p) = λ e. absurd (omega arith)
   get-full (get-none s k o l p) = λ e. absurd (omega arith)
-  get-full {b = b} (get-some s k o l n p) = fill-record g d s (λ z. z .got .status ≡ truncated → z .got .count ≡ length b) (place k o l) b (λ h _. read-full g d s (length b) 0 (place k o l) b h ∙ zero-add (length b)) (λ h e. absurd (h e))
+  get-full {b = b} (get-some s k o l n p) = λ e. fill-record g d s (λ z. z .got .status ≡ truncated → z .got .count ≡ length b) (place k o l) b (λ h _. read-full g d s (length b) 0 (place k o l) b h ∙ zero-add (length b)) (λ h e. absurd (h e)) (or-same g d b _ _ truncated e (λ q. omega arith))
 
   cut-full : (t : Table) (c : Block) (text b : List ℕ) → Asks c (Moves (Get Record)) → let o = cio g d t c text b in o .effect .status ≡ truncated → o .effect .count ≡ length b
   unfolding cio command transfer getAt
   cut-full t c text b e = by-check (λ (o : Outcome). o .effect .status ≡ truncated → o .effect .count ≡ length b) _ _ _ (λ _ q. absurd (omega arith))
       λ h. subst (λ (o : Outcome). o .effect .status ≡ truncated → o .effect .count ≡ length b) (sym (ap (λ k. command g d t k c text b) e)) (read-cut (stateOf t (c .channel)))
     where
-      read-cut : (st : State) → readOn g Record d st b .answer .status ≡ truncated → readOn g Record d st b .answer .count ≡ length b
+      read-cut : (st : State) → getAs g Record d st b .answer .status ≡ truncated → getAs g Record d st b .answer .count ≡ length b
       read-cut st = get-full (get-ends g d Record st b)
 
   module _ (t : Table) (c : Block) (text b : List ℕ) where

@@ -8,7 +8,7 @@ use Rattle.layout.specs.declared.density.Medium.{Medium}
 use Rattle.layout.specs.declared.Served.the-variants.{As}
 use Rattle.layout.specs.Image.{geometryOf, view}
 use Rattle.layout.specs.Header.{servedAs}
-use Rattle.layout.specs.Status.{success}
+use Rattle.layout.specs.Status.{Succeeds}
 use Rattle.rules.specs.WriteHeader.{headerCall}
 
 -- image l with a header written into it is l'
@@ -20,4 +20,4 @@ pub record Headed (l l' : List ℕ) : Type 0 where
 
 -- on any image, whatever its old header
 abbrev pub HeaderCalls : Type 0
-HeaderCalls = (l : List ℕ) (protected : Bool) → let o = headerCall l protected in o .reply .status ≡ success → Headed l (o .image)
+HeaderCalls = (l : List ℕ) (protected : Bool) → let o = headerCall l protected in Succeeds (o .reply .status) → Headed l (o .image)

@@ -9,7 +9,7 @@ use Rattle.layout.specs.declared.density.Medium.{Medium}
 use Rattle.layout.specs.declared.Served.the-variants.{As}
 use Rattle.layout.specs.Image.{geometryOf, view}
 use Rattle.layout.specs.Header.{servedAs}
-use Rattle.layout.specs.Status.{success}
+use Rattle.layout.specs.Status.{success, Succeeds}
 use Rattle.rules.specs.Sectors.{ImageSectorOutcome, isWrite, sectorCall}
 
 -- a write of b to sector k of image l, which is served as m, answered 1
@@ -27,9 +27,9 @@ pub record Wrote (m : Medium) (l : List ℕ) (k : ℕ) (b : List ℕ) (o : Image
 -- any image, with the notch either way, device, unit, command, sector and buffer
 pub record SectorCalls : Type 0 where
   pub writes : (l : List ℕ) (m : Medium) → servedAs l ≡ As m → (protected : Bool) (device unit command k : ℕ) (b : List ℕ) → isWrite command ≡ true
-      → let o = sectorCall l protected device unit command k b in o .reply .status ≡ success → Wrote m l k b o
-  -- a read that answers 1 hands out the sector
+      → let o = sectorCall l protected device unit command k b in Succeeds (o .reply .status) → Wrote m l k b o
+  -- a read that succeeds hands out the sector
   pub reads : (l : List ℕ) (m : Medium) → servedAs l ≡ As m → (protected : Bool) (device unit command k : ℕ) (b : List ℕ) → isWrite command ≡ false
-      → let g = geometryOf m in let o = sectorCall l protected device unit command k b in o .reply .status ≡ success → (o .reply .count ≡ g .size k) × (o .buffer ≡ take (g .size k) (drop (g .start k) l))
+      → let g = geometryOf m in let o = sectorCall l protected device unit command k b in Succeeds (o .reply .status) → (o .reply .count ≡ g .size k) × (o .buffer ≡ take (g .size k) (drop (g .start k) l))
   -- and no command but a write changes the image
   pub keeps : (l : List ℕ) (protected : Bool) (device unit command k : ℕ) (b : List ℕ) → isWrite command ≡ false → sectorCall l protected device unit command k b .image ≡ l

@@ -14,7 +14,7 @@ use Rattle.layout.specs.Image.{Disk, Geometry, geometryOf, view}
 use Rattle.layout.specs.Header.{servedAs}
 use Rattle.layout.specs.File.{inUse}
 use Rattle.layout.specs.Status.{success, badChain}
-use Rattle.rules.specs.Get.{GetOutcome, nextToEnter, hasByte, ends, readable}
+use Rattle.rules.specs.Get.{GetOutcome, nextToEnter, hasByte, ends, readable, orEndReached}
 use Rattle.rules.specs.Showing.{shows, shownStart, shownLength, shownPart}
 use Rattle.rules.specs.Thin.{thinGet}
 
@@ -25,9 +25,9 @@ pub record AtEdge (g : Geometry) (d : Disk) (s j o k : ℕ) : Type 0 where
   pub goesOn : ends g d j ≡ false
   pub enters : nextToEnter g d s j ≡ k
 
--- a get with a buffer b that these bytes fill: 1, and the first of them; the channel has entered sector k
-pub record Gives (part : List ℕ) (s k n : ℕ) (b : List ℕ) (z : GetOutcome) : Type 0 where
-  pub status : z .answer .status ≡ success
+-- a get with a buffer b that these bytes fill: 1, or 3 where they are the file's last, and the first of them; the channel has entered sector k
+pub record Gives (g : Geometry) (d : Disk) (part : List ℕ) (s k n : ℕ) (b : List ℕ) (z : GetOutcome) : Type 0 where
+  pub status : z .answer .status ≡ orEndReached g d b (Reading s k (length b) n) success
   pub count : z .answer .count ≡ length b
   pub state : z .answer .state ≡ Reading s k (length b) n
   pub buffer : z .buffer ≡ take (length b) part
@@ -45,7 +45,7 @@ pub record ShownOn (g : Geometry) (l : List ℕ) : Type 0 where
   pub part : (s k : ℕ) → shows l s k ≡ true → let r = view g l k in shownPart l s k ≡ valuesFrom r (inUse g r) 0
   -- a get from the edge of the sector with sectors left delivers it
   pub delivers : (s j o k n : ℕ) → AtEdge g (view g l) s j o k → shows l s k ≡ true
-      → (c : Channel) → c .state ≡ Reading s j o (suc n) → (b : List ℕ) → 0 < length b → length b ≤ shownLength l s k → Gives (shownPart l s k) s k n b (thinGet l c b)
+      → (c : Channel) → c .state ≡ Reading s j o (suc n) → (b : List ℕ) → 0 < length b → length b ≤ shownLength l s k → Gives g (view g l) (shownPart l s k) s k n b (thinGet l c b)
   -- and it goes on as from the sector's first byte, whatever its buffer
   pub entered : (s j o k n : ℕ) → AtEdge g (view g l) s j o k → shows l s k ≡ true
       → (c e : Channel) → c .state ≡ Reading s j o (suc n) → e .state ≡ Reading s k 0 n → (b : List ℕ) → 0 < length b → thinGet l c b ≡ thinGet l e b

@@ -12,6 +12,7 @@
 
 #![forbid(unsafe_code)]
 
+pub mod ending;
 pub mod generate;
 pub mod pair;
 pub mod random;

@@ -53,8 +53,9 @@ fn run_case(
         match outcome {
             Ok(None) => (),
             Ok(Some(reply)) => {
-                let kind = pair.world().kind;
-                statistics.count(kind, all_open, &steps[steps.len() - 1], reply.answer);
+                let (world, step) = (pair.world(), &steps[steps.len() - 1]);
+                statistics.count(world.kind, all_open, step, reply.answer);
+                statistics.count_ending(world, step, &reply);
             }
             Err(difference) => {
                 return Err(Box::new(Failure {

@@ -5,7 +5,9 @@ use std::fmt::{self, Display, Formatter};
 
 use model::image::Kind;
 
+use crate::ending::Ending;
 use crate::step::{Buffer, Call, Cio, Step};
+use crate::world::{succeeded, Reply, World};
 
 /// Counts of answers by kind of call and status.
 type Answers = BTreeMap<&'static str, BTreeMap<u8, usize>>;
@@ -19,6 +21,8 @@ pub struct Statistics {
     /// Those of records that were cut: by the buffer's end within a line, or by a disk that was full
     /// before a put record's own end of line.
     cut: Answers,
+    /// Those of gets and get records that succeeded and ended at the end of a sector.
+    endings: BTreeMap<Ending, Answers>,
     images: BTreeMap<Kind, usize>,
     protected: usize,
 }
@@ -38,6 +42,23 @@ impl Statistics {
             }
             *self.images.entry(image).or_default() += 1;
             self.protected += usize::from(*notch != 0);
+        }
+    }
+
+    /// Counts how a call that left the world so has ended. One that is lent another length may have
+    /// found another disk there, and is left out.
+    pub fn count_ending(&mut self, world: &World, step: &Step, reply: &Reply) {
+        let Step::Call {
+            call,
+            lengths: None,
+            ..
+        } = step
+        else {
+            return;
+        };
+        if let Some(ending) = Ending::of(world, call, reply) {
+            let answers = self.endings.entry(ending).or_default();
+            add(answers, kind(call, false), (reply.answer % 256) as u8);
         }
     }
 
@@ -61,6 +82,12 @@ impl Statistics {
     /// own end of line.
     pub fn statuses_cut(&self, kind: &str) -> Vec<u8> {
         statuses(&self.cut, kind)
+    }
+
+    /// The same for gets and get records that ended so.
+    pub fn statuses_at(&self, ending: Ending, kind: &str) -> Vec<u8> {
+        let answers = self.endings.get(&ending);
+        answers.map_or(Vec::new(), |answers| statuses(answers, kind))
     }
 }
 
@@ -116,7 +143,7 @@ fn kind_by_blank(call: &Call, kind: &'static str) -> Option<&'static str> {
 fn kind_cut(call: &Call, kind: &'static str, answer: u64) -> Option<&'static str> {
     let (status, count) = (answer % 256, answer / 256);
     let length = call.buffer().map_or(0, Buffer::len);
-    let moved_all = status != 1 && count == length as u64;
+    let moved_all = !succeeded(answer) && count == length as u64;
     match kind {
         "get record" if moved_all && count > 0 => Some(kind),
         "put record" if moved_all && status == 162 => Some(kind),
@@ -169,7 +196,15 @@ impl Display for Statistics {
             "How often each status came for a get record whose buffer was full before the line's end, \
              and for a put record of which only its own end of line did not fit:"
         )?;
-        write_rows(&self.cut, out)
+        write_rows(&self.cut, out)?;
+        for (ending, answers) in &self.endings {
+            writeln!(
+                out,
+                "How often each status came for a get that succeeded at the end of a sector, {ending}:"
+            )?;
+            write_rows(answers, out)?;
+        }
+        Ok(())
     }
 }
 

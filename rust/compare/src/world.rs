@@ -42,6 +42,11 @@ pub struct Reply {
     pub words: Vec<u16>,
 }
 
+/// Whether a call with this answer did all that it was asked for: the status is 1, or 3 at a file's end.
+pub fn succeeded(answer: u64) -> bool {
+    matches!(answer % 256, 1 | 3)
+}
+
 impl World {
     /// A fresh disk, and all channels closed.
     pub fn fresh(kind: Kind) -> World {
@@ -97,6 +102,18 @@ impl World {
     pub fn used(&self, sector: u16) -> usize {
         let [_, _, used] = self.tail(sector);
         used.into()
+    }
+
+    /// Those bytes, no more than the sector holds.
+    pub fn bytes_in_use(&self, sector: u16) -> &[u8] {
+        let used = self.used(sector).min(self.kind.data());
+        &self.image[self.kind.sector_start(sector)..][..used]
+    }
+
+    /// The next sector of such a sector.
+    pub fn next(&self, sector: u16) -> u16 {
+        let [high, low, _] = self.tail(sector);
+        u16::from_be_bytes([high & 3, low])
     }
 
     /// Where the last three bytes begin in the image.

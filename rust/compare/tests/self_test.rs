@@ -2,6 +2,7 @@
 
 use std::sync::OnceLock;
 
+use compare::ending::Ending;
 use compare::generate::Generator;
 use compare::pair::Pair;
 use compare::run::run;
@@ -9,7 +10,7 @@ use compare::shrink::shortest;
 use compare::side::MODEL;
 use compare::statistics::Statistics;
 use compare::step::{Buffer, Call, Cio, Step};
-use compare::world::World;
+use compare::world::{Reply, World};
 use model::fault::Fault;
 use model::image::Kind;
 use model::Model;
@@ -61,6 +62,17 @@ fn a_case_of_a_line_that_is_cut_ends_with_its_get_record() {
     let is_get_record = |call: &Call| matches!(call, Call::Cio(cio) if cio.command == 5);
     assert!(
         matches!(&step, Step::Call { call, .. } if is_get_record(call)),
+        "{step}"
+    );
+}
+
+#[test]
+fn a_case_of_a_files_end_keeps_the_length_of_its_get() {
+    let step = step_that_shows(Fault::ThinGetWithoutEnd);
+    let is_thin_get =
+        |call: &Call| matches!(call, Call::ThinGet { buffer, .. } if !buffer.is_empty());
+    assert!(
+        matches!(&step, Step::Call { call, .. } if is_thin_get(call)),
         "{step}"
     );
 }
@@ -183,7 +195,7 @@ fn of_many_calls() -> &'static Statistics {
     STATISTICS.get_or_init(|| {
         let mut statistics = Statistics::default();
         let mut pair = Pair::new(("model", MODEL), ("model", MODEL));
-        assert!(run(&mut pair, 1, 60_000, &mut statistics).is_ok());
+        assert!(run(&mut pair, 1, 100_000, &mut statistics).is_ok());
         statistics
     })
 }
@@ -206,10 +218,10 @@ fn every_status_comes_for_every_call_that_has_it() {
             "format",
             &[1, 129, 130, 134, 144, 160, 165, 200, 203, 205, 255],
         ),
-        ("get", &[1, 131, 133, 134, 136, 164, 203, 205, 255]),
+        ("get", &[1, 3, 131, 133, 134, 136, 164, 203, 205, 255]),
         (
             "get record",
-            &[1, 131, 133, 134, 136, 137, 164, 203, 205, 255],
+            &[1, 3, 131, 133, 134, 136, 137, 164, 203, 205, 255],
         ),
         ("header", &[1, 144, 203]),
         (
@@ -253,7 +265,7 @@ fn every_status_comes_for_every_call_that_has_it() {
             "status",
             &[1, 129, 130, 134, 160, 165, 167, 170, 203, 205, 255],
         ),
-        ("thin get", &[1, 131, 133, 136, 164, 203, 205, 255]),
+        ("thin get", &[1, 3, 131, 133, 136, 164, 203, 205, 255]),
         (
             "thin put",
             &[1, 133, 135, 144, 162, 163, 164, 203, 205, 255],
@@ -291,7 +303,7 @@ fn the_statistics_tell_records_that_were_cut_apart() {
         let answer = status + 256 * count;
         statistics.count(Kind::Raw, false, &Call::Cio(cio).into(), answer);
     };
-    for (status, bytes) in [(1, 5), (137, 5), (164, 5), (164, 4), (136, 4)] {
+    for (status, bytes) in [(1, 5), (3, 5), (137, 5), (164, 5), (164, 4), (136, 4)] {
         count(5, 5, status, bytes);
     }
     for (status, bytes) in [(1, 5), (162, 5), (162, 4), (163, 0)] {
@@ -309,6 +321,61 @@ fn the_statistics_tell_records_that_were_cut_apart() {
     let words = |line: &str| line.split_whitespace().collect::<Vec<_>>().join(" ");
     let expected = ["get record 2 | 137: 1 164: 1", "put record 2 | 162: 2"];
     assert_eq!(cut.lines().map(words).collect::<Vec<_>>(), expected);
+}
+
+#[test]
+fn gets_end_at_the_end_of_a_sector_whatever_follows_it() {
+    let statistics = of_many_calls();
+    for ending in Ending::ALL {
+        let status = match ending {
+            Ending::File | Ending::FileWithSectorsLeft => 3,
+            _ => 1,
+        };
+        for kind in ["get", "get record", "thin get"] {
+            let statuses = statistics.statuses_at(ending, kind);
+            assert_eq!(statuses, [status], "{kind}: {ending}");
+        }
+        for kind in ["put", "sector"] {
+            assert!(statistics.statuses_at(ending, kind).is_empty(), "{kind}");
+        }
+    }
+}
+
+/// How a get of so many bytes has ended, of a file in sector 4 that has three bytes and such a link,
+/// where it was left at an offset with so many sectors to enter.
+fn ending(bytes: usize, link: [u8; 2], offset: u16, left: u16) -> Option<Ending> {
+    let mut world = World::fresh(Kind::AtrDouble);
+    let at = world.tail_start(4);
+    world.image[at..at + 3].copy_from_slice(&[link[0], link[1], 3]);
+    let used = world.tail_start(6) + 2;
+    world.image[used] = 9;
+    let call = Call::ThinGet {
+        words: vec![1, 0, 4, 0, left],
+        buffer: Buffer::Fill(bytes, 0),
+    };
+    let reply = Reply {
+        answer: 1 + 256 * bytes as u64,
+        buffer: vec![0; bytes],
+        words: vec![1, 0, 4, offset, left],
+    };
+    Ending::of(&world, &call, &reply)
+}
+
+#[test]
+fn the_statistics_tell_endings_apart() {
+    for (bytes, link, offset, left, expected) in [
+        (3, [0, 0], 3, 0, Some(Ending::File)),
+        (3, [0, 0], 3, 1, Some(Ending::FileWithSectorsLeft)),
+        (0, [0, 0], 3, 1, Some(Ending::FileWithNoBytes)),
+        (3, [0, 5], 3, 1, Some(Ending::EmptySector)),
+        (3, [0, 6], 3, 0, Some(Ending::SectorWithNoneLeft)),
+        (3, [0, 6], 3, 1, Some(Ending::Sector)),
+        (3, [1, 0], 3, 1, Some(Ending::EmptySector)),
+        (0, [0, 6], 3, 1, None),
+        (2, [0, 0], 2, 0, None),
+    ] {
+        assert_eq!(ending(bytes, link, offset, left), expected);
+    }
 }
 
 #[test]

@@ -20,7 +20,7 @@ pub fn read_to_end(disk: &Disk<Vec<u8>>, mut channel: Channel) -> Result<Vec<u8>
     let mut buffer = [0; 4096];
     loop {
         let answer = disk.thin_get(&mut channel, &mut buffer);
-        let count = answer.unwrap_or_else(|stopped| stopped.count);
+        let count = answer.map_or_else(|stopped| stopped.count, |got| got.count);
         bytes.extend(&buffer[..count]);
         match answer {
             Ok(_) => {}

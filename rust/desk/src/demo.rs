@@ -88,7 +88,7 @@ impl Demo<'_> {
 
     /// Prints a call with its answer.
     fn call(&mut self, call: &str, status: Status, done: &str) -> Result<(), Failure> {
-        let done = if status == Status::Success { done } else { "" };
+        let done = if status.is_success() { done } else { "" };
         Ok(writeln!(
             self.out,
             "    {call:<34} {}{done}",

@@ -21,7 +21,8 @@ use std::{
 
 pub const HELP: &str = "\
 One call a line, from the terminal or from standard input; lines that begin with # are passed over. Each
-call prints its status number, its message and its count; bytes that it handed out follow, indented.
+call prints its status number, its message and its count; bytes that it handed out follow, indented. A success
+is 1, or 3 where a get or a get record came to the file's end.
 Without IMAGE a fresh raw image in memory is used. Nothing is written to a file but by save. The exit status is
 1 where a line could not be understood or carried out; a refused call is no failure here.
 

@@ -44,6 +44,7 @@ macro_rules! statuses {
 
 statuses! {
     Success = 1, "success";
+    EndReached = 3, "success, and the file's end was reached";
     ChannelOpen = 129, "the channel is open and must be closed for this command";
     BadDevice = 130, "the name does not begin with D: or D1:";
     WriteOnly = 131, "the channel is open for writing only";
@@ -80,11 +81,24 @@ impl Status {
         self as u8
     }
 
+    /// Whether the call did all that was asked for.
+    ///
+    /// ```
+    /// use hilugsaban::Status;
+    ///
+    /// let successes = Status::ALL.iter().filter(|status| status.is_success());
+    /// assert_eq!(successes.collect::<Vec<_>>(), [&Status::Success, &Status::EndReached]);
+    /// ```
+    pub fn is_success(self) -> bool {
+        matches!(self, Status::Success | Status::EndReached)
+    }
+
     /// `Ok` for a success, else the refusal.
     pub fn ok(self) -> Result<(), Status> {
-        match self {
-            Status::Success => Ok(()),
-            refusal => Err(refusal),
+        if self.is_success() {
+            Ok(())
+        } else {
+            Err(self)
         }
     }
 }
@@ -152,14 +166,30 @@ impl Answer {
 
     /// The count of a success, else the refusal with the count of what was done.
     pub fn complete(self) -> Result<usize, Incomplete> {
-        match self.status {
-            Status::Success => Ok(self.count),
-            status => Err(Incomplete {
-                status,
-                count: self.count,
-            }),
+        let Answer { status, count } = self;
+        match status.ok() {
+            Ok(()) => Ok(count),
+            Err(status) => Err(Incomplete { status, count }),
         }
     }
+
+    /// The same of a get or get record, with whether it came to the file's end.
+    pub fn got(self) -> Result<Got, Incomplete> {
+        let end_reached = self.status == Status::EndReached;
+        let count = self.complete()?;
+        Ok(Got { count, end_reached })
+    }
+}
+
+/// What a get brought that transferred all its bytes, or a get record that transferred a whole line.
+#[derive(Clone, Copy, PartialEq, Eq, Debug)]
+pub struct Got {
+    /// The bytes that came; of a line with its end of line.
+    pub count: usize,
+    /// Whether the last of them is the file's last, which is [`Status::EndReached`]: a next get would find the file ended, with
+    /// [`Status::EndOfFile`] and no bytes. It is false where only empty sectors follow, as they do in no file that was written
+    /// by puts, and for a get of no bytes.
+    pub end_reached: bool,
 }
 
 /// A get or put that did not transfer all its bytes, or a get record or put record that did not transfer a whole line.
@@ -225,6 +255,15 @@ mod tests {
         );
         assert_eq!(Answer::from_word(1).ok(), Ok(0));
         assert_eq!(Answer::from_word(170).ok(), Err(Status::NotFound));
+        assert_eq!(Answer::from_word(3 + 256 * 9).ok(), Ok(9));
+        assert_eq!(Answer::from_word(3 + 256 * 9).complete(), Ok(9));
+        for (status, end_reached) in [(1, false), (3, true)] {
+            let got = Answer::from_word(status + 256 * 9).got();
+            let count = 9;
+            assert_eq!(got, Ok(Got { count, end_reached }));
+        }
+        let ended = Answer::from_word(136 + 256 * 9);
+        assert_eq!(ended.got().unwrap_err(), ended.complete().unwrap_err());
         let full = Answer::from_word(162 + 256 * 3).complete().unwrap_err();
         assert_eq!(full.to_string(), "no sector is free after 3 bytes");
         assert_eq!(Status::from(full), Status::DiskFull);

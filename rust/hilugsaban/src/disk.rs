@@ -1,7 +1,7 @@
 //! A disk image with its channels, and the calls on it.
 
 use crate::{
-    answer::{Answer, Incomplete},
+    answer::{Answer, Got, Incomplete},
     name::lent,
     raw, Channel, Kind, LineWriter, Lines, Notch, Reader, Status, Table, Writer,
 };
@@ -191,15 +191,15 @@ impl<B: AsRef<[u8]>> Disk<B> {
     /// # disk.put(0, b"three")?;
     /// let mut channel = Channel::reading(0, 1);
     /// let mut bytes = [0; 2];
-    /// assert_eq!(disk.thin_get(&mut channel, &mut bytes)?, 2);
+    /// assert_eq!(disk.thin_get(&mut channel, &mut bytes)?.count, 2);
     /// assert_eq!((&bytes, channel.sector, channel.offset), (b"th", 4, 2));
     /// # Ok::<(), Box<dyn std::error::Error>>(())
     /// ```
-    pub fn thin_get(&self, channel: &mut Channel, buffer: &mut [u8]) -> Result<usize, Incomplete> {
+    pub fn thin_get(&self, channel: &mut Channel, buffer: &mut [u8]) -> Result<Got, Incomplete> {
         let mut words = channel.words();
         let word = raw::thin_get(self.image(), &mut words, buffer);
         *channel = words.into();
-        Answer::from_word(word).complete()
+        Answer::from_word(word).got()
     }
 }
 
@@ -250,25 +250,29 @@ impl<B: AsMut<[u8]>> Disk<B> {
         .ok()
     }
 
-    /// Fills the buffer from a reading channel. At the file's end it is [`Incomplete`] with [`Status::EndOfFile`], and the
-    /// rest of the buffer stays as it was.
+    /// Fills the buffer from a reading channel, and says whether that came to the file's end. Where the file ends before the
+    /// buffer is full it is [`Incomplete`] with [`Status::EndOfFile`], and the rest of the buffer stays as it was.
     ///
     /// ```
-    /// # use hilugsaban::{Direction, Disk, Incomplete, Status};
+    /// # use hilugsaban::{Direction, Disk, Got, Incomplete, Status};
     /// # let mut disk = Disk::fresh();
     /// # disk.open(0, Direction::Write, "A")?;
     /// # disk.put(0, b"three")?;
     /// # disk.close(0)?;
     /// let mut buffer = *b"....";
     /// disk.open(0, Direction::Read, "A")?;
-    /// assert_eq!(disk.get(0, &mut buffer)?, 4);
+    /// assert_eq!(disk.get(0, &mut buffer)?, Got { count: 4, end_reached: false });
     /// let end = Incomplete { status: Status::EndOfFile, count: 1 };
     /// assert_eq!(disk.get(0, &mut buffer), Err(end));
     /// assert_eq!(&buffer, b"ehre");
+    /// disk.close(0)?;
+    ///
+    /// disk.open(0, Direction::Read, "A")?;
+    /// assert_eq!(disk.get(0, &mut [0; 5])?, Got { count: 5, end_reached: true });
     /// # Ok::<(), Box<dyn std::error::Error>>(())
     /// ```
-    pub fn get(&mut self, channel: u8, buffer: &mut [u8]) -> Result<usize, Incomplete> {
-        self.cio(channel, command::GET, 0, &[], buffer).complete()
+    pub fn get(&mut self, channel: u8, buffer: &mut [u8]) -> Result<Got, Incomplete> {
+        self.cio(channel, command::GET, 0, &[], buffer).got()
     }
 
     /// Adds bytes at the end of a writing channel's file. On a full disk it is [`Incomplete`] with [`Status::DiskFull`], and
@@ -281,7 +285,7 @@ impl<B: AsMut<[u8]>> Disk<B> {
     }
 
     /// Reads a line from a reading channel into the buffer, its [`END_OF_LINE`](crate::END_OF_LINE) included, and answers its
-    /// length. The rest of the buffer stays as it was.
+    /// length, and whether it is the file's last. The rest of the buffer stays as it was.
     ///
     /// A line that does not end within the buffer is [`Incomplete`] with [`Status::TruncatedRecord`]: the buffer is full, and
     /// the line's rest was read and dropped, so that the channel stands before the next line. So it is where the line has just
@@ -296,7 +300,7 @@ impl<B: AsMut<[u8]>> Disk<B> {
     /// # disk.close(0)?;
     /// let mut buffer = *b"....";
     /// disk.open(0, Direction::Read, "A")?;
-    /// assert_eq!(disk.get_record(0, &mut buffer)?, 4);
+    /// assert_eq!(disk.get_record(0, &mut buffer)?.count, 4);
     /// assert_eq!(&buffer, b"one\x9B");
     /// let cut = Incomplete { status: Status::TruncatedRecord, count: 4 };
     /// assert_eq!(disk.get_record(0, &mut buffer), Err(cut));
@@ -306,9 +310,8 @@ impl<B: AsMut<[u8]>> Disk<B> {
     /// assert_eq!(&buffer, b"ende");
     /// # Ok::<(), Box<dyn std::error::Error>>(())
     /// ```
-    pub fn get_record(&mut self, channel: u8, buffer: &mut [u8]) -> Result<usize, Incomplete> {
-        self.cio(channel, command::GET_RECORD, 0, &[], buffer)
-            .complete()
+    pub fn get_record(&mut self, channel: u8, buffer: &mut [u8]) -> Result<Got, Incomplete> {
+        self.cio(channel, command::GET_RECORD, 0, &[], buffer).got()
     }
 
     /// Adds a line at the end of a writing channel's file: the bytes through their first

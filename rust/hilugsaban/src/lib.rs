@@ -47,6 +47,33 @@
 //! # Ok::<(), Box<dyn std::error::Error>>(())
 //! ```
 //!
+//! # The end of a file
+//!
+//! A get or get record that takes a file's last byte says so, by [`Got::end_reached`], so that a loader can stop there and need
+//! not ask for a byte that does not come. One that asks for more is [`Incomplete`] with [`Status::EndOfFile`].
+//!
+//! ```
+//! use hilugsaban::{Direction, Disk};
+//!
+//! let mut disk = Disk::fresh();
+//! disk.open(0, Direction::Write, "ENDS.DAT")?;
+//! disk.put(0, b"58.3159.02")?;
+//! disk.close(0)?;
+//!
+//! disk.open(0, Direction::Read, "ENDS.DAT")?;
+//! let mut times = Vec::new();
+//! loop {
+//!     let mut time = [0; 5];
+//!     let got = disk.get(0, &mut time)?;
+//!     times.push(time);
+//!     if got.end_reached {
+//!         break;
+//!     }
+//! }
+//! assert_eq!(times, [*b"58.31", *b"59.02"]);
+//! # Ok::<(), Box<dyn std::error::Error>>(())
+//! ```
+//!
 //! # Names
 //!
 //! A name is a letter and up to seven letters or digits, then optionally a point and up to three letters or digits, capitals
@@ -82,7 +109,7 @@ pub mod raw;
 mod stream;
 mod table;
 
-pub use answer::{Answer, Incomplete, Status};
+pub use answer::{Answer, Got, Incomplete, Status};
 pub use disk::{command, Direction, Disk};
 pub use kind::Kind;
 pub use lines::{Line, LineWriter, Lines, END_OF_LINE};

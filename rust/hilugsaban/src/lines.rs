@@ -75,7 +75,7 @@ impl<B: AsMut<[u8]>> Lines<'_, B> {
                     self.disk.table_mut().clone_from(&before);
                     self.buffer.resize(2 * cut.count, 0);
                 }
-                answer => return answer,
+                answer => return answer.map(|got| got.count),
             }
         }
     }

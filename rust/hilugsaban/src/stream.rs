@@ -28,7 +28,7 @@ impl<B: AsMut<[u8]>> Read for Reader<'_, B> {
                 status: Status::EndOfFile,
                 count,
             }) => Ok(count),
-            answer => transferred(answer),
+            answer => transferred(answer.map(|got| got.count)),
         }
     }
 }

@@ -1,7 +1,7 @@
 //! The safe calls on whole disks: files, refusals, damage, streams.
 
 use hilugsaban::{
-    command, padded_name, raw, read_name, Answer, Channel, Direction, Disk, Incomplete, Kind,
+    command, padded_name, raw, read_name, Answer, Channel, Direction, Disk, Got, Incomplete, Kind,
     Notch, ReadName, Status, CHANNELS, CLOSED, READING, WRITING,
 };
 use std::io::{self, ErrorKind, Read, Write};
@@ -12,6 +12,17 @@ fn make(disk: &mut Disk<Vec<u8>>, name: &str, bytes: &[u8]) {
     assert_eq!(disk.put(0, bytes), Ok(bytes.len()));
     disk.close(0).unwrap();
 }
+
+/// What a get answers that brought all bytes.
+fn got(count: usize, end_reached: bool) -> Result<Got, Incomplete> {
+    Ok(Got { count, end_reached })
+}
+
+/// What a get answers that is at the file's end.
+const ENDED: Result<Got, Incomplete> = Err(Incomplete {
+    status: Status::EndOfFile,
+    count: 0,
+});
 
 /// The bytes of a file.
 fn read(disk: &mut Disk<Vec<u8>>, name: &str) -> Vec<u8> {
@@ -48,9 +59,74 @@ fn get_reports_what_came() {
         })
     );
     assert_eq!(&bytes, b"abc..");
-    assert_eq!(disk.get(7, &mut []), Ok(0));
-    let mut in_io = || -> io::Result<usize> { Ok(disk.get(7, &mut bytes)?) };
+    assert_eq!(disk.get(7, &mut []), got(0, false));
+    let mut in_io = || -> io::Result<Got> { Ok(disk.get(7, &mut bytes)?) };
     assert_eq!(in_io().unwrap_err().kind(), ErrorKind::UnexpectedEof);
+}
+
+#[test]
+fn get_tells_the_files_end_with_its_last_byte() {
+    for kind in Kind::ALL {
+        let data = kind.sector_bytes(4) - 3;
+        for length in [1, 5, data, data + 1, 3 * data, kind.longest_file()] {
+            let mut disk = Disk::fresh_as(kind);
+            make(&mut disk, "A", &vec![7; length]);
+            disk.open(0, Direction::Read, "A").unwrap();
+            let mut channel = disk.table().channel(0);
+            let mut bytes = vec![0; length];
+            let but_one = length - 1;
+            assert_eq!(disk.get(0, &mut bytes[..but_one]), got(but_one, false));
+            assert_eq!(disk.get(0, &mut bytes[but_one..]), got(1, true));
+            assert!(bytes == vec![7; length]);
+            let whole = disk.thin_get(&mut channel, &mut bytes);
+            assert_eq!(whole, got(length, true), "{kind}, {length}");
+            assert_eq!(disk.table().channel(0), channel);
+            for _ in 0..2 {
+                assert_eq!(disk.get(0, &mut []), got(0, false));
+                assert_eq!(disk.get(0, &mut [0]), ENDED);
+                assert_eq!(disk.thin_get(&mut channel, &mut [0]), ENDED);
+            }
+        }
+    }
+}
+
+#[test]
+fn where_an_empty_sector_follows_the_end_is_not_told() {
+    let mut disk = Disk::fresh();
+    make(&mut disk, "A", &[7; 126]);
+    disk.image_mut()[4 * 128 + 127] = 0;
+    disk.open(0, Direction::Read, "A").unwrap();
+    assert_eq!(disk.get(0, &mut [0; 125]), got(125, false));
+    assert_eq!(disk.get(0, &mut [0]), ENDED);
+}
+
+#[test]
+fn the_end_is_told_by_the_link_alone() {
+    let mut disk = Disk::fresh();
+    make(&mut disk, "A", &[7; 125]);
+    let mut channel = Channel::reading(0, 9);
+    let mut bytes = [0; 125];
+    assert_eq!(disk.thin_get(&mut channel, &mut bytes), got(125, true));
+    assert_eq!(channel.left, 8);
+    disk.image_mut()[3 * 128 + 126] = 5;
+    let mut channel = Channel::reading(0, 1);
+    assert_eq!(disk.thin_get(&mut channel, &mut bytes), got(125, false));
+    let no_more = Incomplete {
+        status: Status::BadChain,
+        count: 0,
+    };
+    assert_eq!(disk.thin_get(&mut channel, &mut bytes), Err(no_more));
+}
+
+#[test]
+fn a_reader_ends_with_a_read_of_no_bytes() {
+    let mut disk = Disk::fresh();
+    make(&mut disk, "A", b"abcd");
+    disk.open(0, Direction::Read, "A").unwrap();
+    let mut bytes = [0; 2];
+    for count in [2, 2, 0, 0] {
+        assert_eq!(disk.reader(0).read(&mut bytes).unwrap(), count);
+    }
 }
 
 #[test]
@@ -523,7 +599,7 @@ fn what_only_reads_is_served_with_the_notch_closed() {
         let mut disk = busy_disk(kind).with_notch(Notch::Closed);
         let image = disk.image().to_vec();
         let mut bytes = [0; 5];
-        assert_eq!(disk.get(4, &mut bytes), Ok(5));
+        assert_eq!(disk.get(4, &mut bytes), got(5, true));
         assert_eq!(&bytes, b"bytes");
         assert_eq!(disk.close(4), Ok(()));
         assert_eq!(disk.close(4), Ok(()));
@@ -532,7 +608,7 @@ fn what_only_reads_is_served_with_the_notch_closed() {
         assert_eq!(disk.show(0, 4), Some(&b"bytes"[..]));
         assert_eq!(disk.whole_sector(4).unwrap()[..5], *b"bytes");
         let mut channel = Channel::reading(0, 1);
-        assert_eq!(disk.thin_get(&mut channel, &mut bytes), Ok(5));
+        assert_eq!(disk.thin_get(&mut channel, &mut bytes), got(5, true));
         assert!(disk.image() == image);
     }
 }

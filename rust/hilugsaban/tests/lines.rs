@@ -1,6 +1,6 @@
 //! Lines of text: get record, put record, the lines of a channel, and what writes lines.
 
-use hilugsaban::{Direction, Disk, Incomplete, Kind, Line, Notch, Status, END_OF_LINE};
+use hilugsaban::{Direction, Disk, Got, Incomplete, Kind, Line, Notch, Status, END_OF_LINE};
 use std::io::{self, ErrorKind};
 
 /// A disk on which channel 0 writes the file A.
@@ -24,8 +24,14 @@ fn read_again(mut disk: Disk<Vec<u8>>) -> Disk<Vec<u8>> {
     disk
 }
 
-fn stopped(status: Status, count: usize) -> Result<usize, Incomplete> {
+/// What a get, a put or one of a record answers that did not transfer all.
+fn stopped<T>(status: Status, count: usize) -> Result<T, Incomplete> {
     Err(Incomplete { status, count })
+}
+
+/// What a get or get record answers that did.
+fn got(count: usize, end_reached: bool) -> Result<Got, Incomplete> {
+    Ok(Got { count, end_reached })
 }
 
 /// An item of the lines that has ended, or not.
@@ -39,13 +45,13 @@ fn get_record_tells_how_a_line_came() {
     for kind in Kind::ALL {
         let mut disk = reading(kind, b"ab\x9Babcd\x9Babc\x9Babc");
         let mut buffer = *b"....";
-        assert_eq!(disk.get_record(0, &mut []), Ok(0));
-        assert_eq!(disk.get_record(0, &mut buffer), Ok(3));
+        assert_eq!(disk.get_record(0, &mut []), got(0, false));
+        assert_eq!(disk.get_record(0, &mut buffer), got(3, false));
         assert_eq!(&buffer, b"ab\x9B.");
         let cut = stopped(Status::TruncatedRecord, 4);
         assert_eq!(disk.get_record(0, &mut buffer), cut);
         assert_eq!(&buffer, b"abcd");
-        assert_eq!(disk.get_record(0, &mut buffer), Ok(4));
+        assert_eq!(disk.get_record(0, &mut buffer), got(4, false));
         assert_eq!(disk.table().channel(0).offset, 12);
         buffer.fill(b'.');
         let end = stopped(Status::EndOfFile, 3);
@@ -57,14 +63,35 @@ fn get_record_tells_how_a_line_came() {
 }
 
 #[test]
+fn get_record_tells_the_last_line() {
+    for kind in Kind::ALL {
+        let mut disk = reading(kind, b"ab\x9B\x9Bcd\x9B");
+        let mut buffer = [0; 9];
+        for (count, end_reached) in [(3, false), (1, false), (3, true)] {
+            let line = disk.get_record(0, &mut buffer);
+            assert_eq!(line, got(count, end_reached));
+        }
+        assert_eq!(disk.get_record(0, &mut []), got(0, false));
+        let ended = stopped(Status::EndOfFile, 0);
+        assert_eq!(disk.get_record(0, &mut buffer), ended);
+        // A line that was cut is none that came, also at the file's end.
+        for bytes in [&b"abc"[..], b"abc\x9B", b"abcd\x9B"] {
+            let mut disk = reading(kind, bytes);
+            let cut = stopped(Status::TruncatedRecord, 3);
+            assert_eq!(disk.get_record(0, &mut buffer[..3]), cut);
+        }
+    }
+}
+
+#[test]
 fn records_have_the_checks_of_get_and_put() {
     let mut disk = writing(Kind::Raw);
     let mut buffer = [0; 3];
     let write_only = stopped(Status::WriteOnly, 0);
     assert_eq!(disk.get_record(0, &mut buffer), write_only);
-    let closed = stopped(Status::ChannelClosed, 0);
-    assert_eq!(disk.get_record(1, &mut buffer), closed);
-    assert_eq!(disk.put_record(1, b"a"), closed);
+    let closed = Status::ChannelClosed;
+    assert_eq!(disk.get_record(1, &mut buffer), stopped(closed, 0));
+    assert_eq!(disk.put_record(1, b"a"), stopped(closed, 0));
     assert_eq!(disk.put_record(8, b"a"), stopped(Status::BadChannel, 0));
     disk.set_notch(Notch::Closed);
     for bytes in [&b""[..], b"a", b"\x9B"] {
@@ -90,7 +117,7 @@ fn put_record_counts_the_callers_bytes() {
         }
         let mut buffer = [0; 10];
         let mut disk = read_again(disk);
-        assert_eq!(disk.get(0, &mut buffer), Ok(10));
+        assert_eq!(disk.get(0, &mut buffer), got(10, true));
         assert_eq!(&buffer, b"one\x9Btwo\x9B\x9B\x9B");
     }
 }
@@ -153,7 +180,7 @@ fn between_two_lines_the_channel_stands_behind_the_first() {
     let mut disk = reading(Kind::Raw, &[&long[..], b"\x9Bnext\x9B"].concat());
     let mut buffer = [0; 5];
     assert_eq!(disk.lines(0).next(), line(&long, true));
-    assert_eq!(disk.get(0, &mut buffer), Ok(5));
+    assert_eq!(disk.get(0, &mut buffer), got(5, true));
     assert_eq!(&buffer, b"next\x9B");
     assert_eq!(disk.lines(0).next(), None);
 }

@@ -1,11 +1,12 @@
 //! A second program for the rules of timing-desk disks.
 //!
 //! The paper *Timing-desk disks: what is served, and the precise rules* says what every call on
-//! a disk image does; of *Later customer requests* P1 adds lines of text, P4 the write-protect notch,
-//! P5 lets a blank end a name, P8 takes the row 161 out and P13 adds ATR images and double density.
-//! This crate does what they say, in plain Rust, written from them and from nothing else. It shares no
-//! code with the proved library, which makes it of use twice: the two are compared byte for byte on
-//! many disks (package `compare`), and it is the measure for the library's speed.
+//! a disk image does; of *Later customer requests* P1 adds lines of text, P2 a status at a file's end,
+//! P4 the write-protect notch, P5 lets a blank end a name, P8 takes the row 161 out and P13 adds ATR
+//! images and double density. This crate does what they say, in plain Rust, written from them and from
+//! nothing else. It shares no code with the proved library, which makes it of use twice: the two are
+//! compared byte for byte on many disks (package `compare`), and it is the measure for the library's
+//! speed.
 //!
 //! The modules follow the paper's sections:
 //!
@@ -18,6 +19,7 @@
 //! | [`names`] | Commands: names; request P5: names that end in a blank |
 //! | `commands`, `transfer` | Commands, status numbers and their order |
 //! | `records` | request P1: lines of text |
+//! | `end_reached` | request P2: the desk waits for a 3 |
 //! | `recovery`, `sectors`, `showing` | Recovery, Sectors, Showing |
 //! | `notch` | request P4: the write-protect notch |
 //! | [`status`] | the status numbers |
@@ -49,6 +51,7 @@ pub mod channel;
 mod commands;
 pub mod directory;
 pub mod disk;
+mod end_reached;
 pub mod fault;
 pub mod file;
 pub mod image;

@@ -34,9 +34,10 @@ impl<V: Variant> Model<V> {
             if self.wrong(Fault::EmptyRecordTested) {
                 self.reading_place(disk, place).ok_or(Status::WrongChain)?;
             }
-            return Ok(0);
+            return self.no_bytes(disk, place, Fault::EndOfEmptyRecord);
         }
-        self.get_record(disk, place, buffer)
+        let outcome = self.get_record(disk, place, buffer);
+        self.with_end(outcome, Fault::EndOfGetsOnly)
     }
 
     /// A put record on a channel in any state: put's 133, 135 and 144. One of an empty buffer writes
@@ -60,8 +61,8 @@ impl<V: Variant> Model<V> {
         self.put_record(disk, place, bytes)
     }
 
-    /// Fills the buffer through the first `$9B`. Where the buffer is full before that, the rest of
-    /// the line is read and dropped. A file that ends first is 136, a sector that cannot be entered
+    /// Fills the buffer through the first `$9B`: 1 or 3. Where the buffer is full before that, the rest
+    /// of the line is read and dropped. A file that ends first is 136, a sector that cannot be entered
     /// 164, as for get.
     fn get_record(self, disk: &impl Density, place: &mut Reading, buffer: &mut [u8]) -> Outcome {
         let (slot, mut rest) = self.reading_place(disk, place).ok_or(Status::WrongChain)?;
@@ -75,7 +76,8 @@ impl<V: Variant> Model<V> {
             done += run - passed;
             if ended {
                 self.behind_line(place, &mut buffer[done..]);
-                return Ok(done);
+                let at_end = run == rest.len() || self.wrong(Fault::LineEndsWithinSector);
+                return self.delivered(disk, place, at_end, done);
             }
             if done == buffer.len() {
                 return self.truncated(disk, slot, place, &rest[run..], done);
@@ -84,10 +86,8 @@ impl<V: Variant> Model<V> {
                 Err(Status::EndOfFile) if done > 0 && self.wrong(Fault::LastLineEnds) => {
                     return Ok(done)
                 }
-                entered => entered.map_err(|status| Stop {
-                    status,
-                    count: done,
-                })?,
+                entered => entered
+                    .map_err(|status| self.stopped(status, done, Fault::LastLineReachesEnd))?,
             };
         }
     }
@@ -116,9 +116,13 @@ impl<V: Variant> Model<V> {
             place.offset += 1;
             return Ok(count);
         }
-        let file_ends = || rest.is_empty() && self.tail(disk, place.sector).next == 0;
+        let file_ends = || rest.is_empty() && self.ends_file(disk, place);
         if self.wrong(Fault::LineEndsWithFile) && file_ends() {
             return Ok(count);
+        }
+        if self.wrong(Fault::FullLineReachesEnd) && file_ends() {
+            let status = Status::EndReached;
+            return Err(Stop { status, count });
         }
         let status = self.drop_line(disk, slot, place, rest);
         let uncounted = self.wrong(Fault::LongLineNotCounted) && status == Status::TruncatedRecord;
@@ -128,8 +132,8 @@ impl<V: Variant> Model<V> {
         })
     }
 
-    /// Reads on through the next `$9B` and delivers nothing: 137, at the file's end too; 164 at a
-    /// sector that cannot be entered.
+    /// Reads on through the next `$9B` and delivers nothing: 137, at the file's end too, and never 3;
+    /// 164 at a sector that cannot be entered.
     fn drop_line<'a>(
         self,
         disk: &'a impl Density,
@@ -143,6 +147,10 @@ impl<V: Variant> Model<V> {
         loop {
             let (run, ended) = line_in(rest);
             place.offset += run as u16 - u16::from(ended && self.wrong(Fault::LongLineEndLeft));
+            let at_end = ended && run == rest.len();
+            if self.wrong(Fault::DroppedLineReachesEnd) && at_end && self.ends_file(disk, place) {
+                return Status::EndReached;
+            }
             if ended || self.wrong(Fault::LongLineToSector) {
                 return Status::TruncatedRecord;
             }
@@ -150,6 +158,9 @@ impl<V: Variant> Model<V> {
             // enter a chain that loops would be read for ever.
             rest = match RIGHT.enter(disk, slot, place) {
                 Ok(rest) => rest,
+                Err(Status::EndOfFile) if self.wrong(Fault::DroppedEndReached) => {
+                    return Status::EndReached
+                }
                 Err(Status::EndOfFile) if !self.wrong(Fault::EndWhileDropping) => {
                     return Status::TruncatedRecord
                 }

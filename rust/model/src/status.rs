@@ -48,6 +48,8 @@ pub enum Status {
     NoSlot = 169,
     /// There is no free sector.
     NoSector = 162,
+    /// A get or get record succeeded, and its channel is at the end of a sector whose next sector is 0.
+    EndReached = 3,
     /// The file ended before the buffer was full; for a get record, before the line ended too.
     EndOfFile = 136,
     /// The buffer of a get record was full before the line ended, and the line's rest was dropped.
@@ -62,7 +64,7 @@ pub enum Status {
     WrongBuffer = 204,
 }
 
-/// A status other than success, with the count that is reported beside it.
+/// A status other than 1, with the count that is reported beside it. Of these 3 alone is a success.
 #[derive(Clone, Copy, Debug, PartialEq, Eq)]
 pub struct Stop {
     pub status: Status,

@@ -17,6 +17,14 @@ pub(crate) struct End {
     map_byte: usize,
 }
 
+/// Hands out what is left of a sector, as many bytes as there is room for; answers how many.
+fn hand_out(place: &mut Reading, rest: &[u8], room: &mut [u8]) -> usize {
+    let run = rest.len().min(room.len());
+    room[..run].copy_from_slice(&rest[..run]);
+    place.offset += run as u16;
+    run
+}
+
 impl<V: Variant> Model<V> {
     /// The bytes in use of a sector that get can enter for the slot.
     pub(crate) fn bytes_in_use<D: Density>(self, disk: &D, slot: u8, sector: u16) -> Option<&[u8]> {
@@ -36,7 +44,8 @@ impl<V: Variant> Model<V> {
         if self.wrong(Fault::NoBytesFirst) && buffer.is_empty() && writes {
             return Ok(0);
         }
-        self.get(disk, channel.reading()?, buffer)
+        let outcome = self.get(disk, channel.reading()?, buffer);
+        self.with_end(outcome, Fault::EndOfRecordsOnly)
     }
 
     /// A put on a channel in any state: 133, 135, 144.
@@ -55,42 +64,39 @@ impl<V: Variant> Model<V> {
         if !(self.wrong(Fault::NotchAfterNoBytes) && bytes.is_empty()) {
             self.require_open_notch(notch)?;
         }
-        self.put(disk, writing, bytes)
+        match self.put(disk, writing, bytes) {
+            Ok(count) if self.wrong(Fault::EndOfPuts) => Err(Stop {
+                status: Status::EndReached,
+                count,
+            }),
+            outcome => outcome,
+        }
     }
 
-    /// Get fills the buffer, or stops with 136 where the file ends and with 164 where it cannot go
-    /// on; then the channel stays at the end of the sector it last entered.
+    /// Get fills the buffer: 1 or 3. Or it stops with 136 where the file ends and with 164 where it
+    /// cannot go on; then the channel stays at the end of the sector it last entered.
     fn get(self, disk: &impl Density, place: &mut Reading, buffer: &mut [u8]) -> Outcome {
         if buffer.is_empty() {
-            return Ok(0);
+            return self.no_bytes(disk, place, Fault::EndOfNoBytes);
         }
         let (slot, mut rest) = self.reading_place(disk, place).ok_or(Status::WrongChain)?;
-        let mut done = 0;
-        loop {
-            let run = rest.len().min(buffer.len() - done);
-            buffer[done..done + run].copy_from_slice(&rest[..run]);
-            place.offset += run as u16;
-            done += run;
-            let ended = self.wrong(Fault::EndTooEarly)
-                && done == buffer.len()
-                && run == rest.len()
-                && self.tail(disk, place.sector).next == 0;
-            if done == buffer.len() && !ended {
-                return Ok(done);
-            }
+        let mut run = hand_out(place, rest, buffer);
+        let mut done = run;
+        while done < buffer.len() {
             rest = match self.enter(disk, slot, place) {
                 Ok(rest) => rest,
                 Err(status) => {
                     if self.wrong(Fault::RestCleared) {
                         buffer[done..].fill(0);
                     }
-                    return Err(Stop {
-                        status,
-                        count: done,
-                    });
+                    return Err(self.stopped(status, done, Fault::ShortGetReachesEnd));
                 }
             };
+            run = hand_out(place, rest, &mut buffer[done..]);
+            done += run;
         }
+        let at_end = run == rest.len() || self.wrong(Fault::EndWithinSector);
+        self.delivered(disk, place, at_end, done)
     }
 
     /// The slot of a lent record and what is left of its entered sector, which is tested again.
@@ -248,7 +254,7 @@ impl<V: Variant> Model<V> {
         let mut channel = before;
         let outcome = on_disk!(disk, disk => self.get_from(disk, &mut channel, buffer));
         self.store(record, before, channel);
-        outcome
+        self.with_end(outcome, Fault::ThinGetWithoutEnd)
     }
 
     /// The thin put: one lent record, advanced.

@@ -52,6 +52,9 @@ const OPEN_NOTCH: u8 = 0;
 /// The answer of a call that succeeds and counts nothing.
 const SUCCESS: u64 = 1;
 
+/// The status of a get that reaches its file's end.
+const END_REACHED: u64 = 3;
+
 /// The status of a get record that drops the rest of a line.
 const TRUNCATED: u64 = 137;
 
@@ -279,6 +282,11 @@ fn transferred(length: usize) -> u64 {
     SUCCESS + 256 * length as u64
 }
 
+/// The same of a get that takes the file's last byte.
+fn got_to_end(length: usize) -> u64 {
+    END_REACHED + 256 * length as u64
+}
+
 /// So many bytes, in words.
 fn bytes(length: usize) -> String {
     format!("{length} {}", if length == 1 { "byte" } else { "bytes" })
@@ -296,16 +304,27 @@ fn opened(kind: Kind, command: u8) -> (&'static str, Desk) {
     }
 }
 
+/// How many transfers of such a length are made, and what each answers. Gets stop before the file's
+/// last byte, so that all answer alike, but for one that takes the whole file.
+fn calls_of_transfers(kind: Kind, command: u8, length: usize) -> (usize, u64) {
+    let whole = whole_disk(kind);
+    match command {
+        GET if length == whole => (1, got_to_end(length)),
+        GET => (((whole - 1) / length).min(2000), transferred(length)),
+        _ => ((whole / length).min(2000), transferred(length)),
+    }
+}
+
 /// Gets or puts that follow on each other: on a channel of the table, or thin ones on its record.
 fn transfers(kind: Kind, command: u8, length: usize, thin: bool) -> Line {
-    let calls = (whole_disk(kind) / length).min(2000);
+    let (calls, answer) = calls_of_transfers(kind, command, length);
     let (verb, start) = opened(kind, command);
     let manner = if thin { "thin " } else { "" };
     let text = format!("{manner}{verb} of {}", bytes(length));
     Line::new(text, start, move |side, desk| {
         let mut buffer = Bytes::new(0x5a, length);
         let mut request = request(command).buffer(&mut buffer);
-        time(calls, transferred(length), || match (thin, command) {
+        time(calls, answer, || match (thin, command) {
             (false, _) => desk.cio(side, &mut request),
             (true, PUT) => side.thin_put(
                 &mut desk.image,
@@ -318,12 +337,13 @@ fn transfers(kind: Kind, command: u8, length: usize, thin: bool) -> Line {
     })
 }
 
-/// Get records that go through a file of lines, each of which fits.
+/// Get records that go through a file of lines, each of which fits, up to the last but one: the last
+/// has another answer.
 fn get_lines(kind: Kind) -> Line {
     let mut line = [0x5a; LINE];
     line[LINE - 1] = END_OF_LINE;
     let start = Desk::fresh(kind)
-        .with_bytes(&file_name(0), line.repeat(LINES / LINE))
+        .with_bytes(&file_name(0), line.repeat(LINES / LINE + 1))
         .with(open(READ, &file_name(0)));
     let text = format!("get record of a line of {LINE} bytes");
     Line::new(text, start, |side, desk| {
@@ -373,7 +393,7 @@ fn get_scattered(kind: Kind) -> Line {
     Line::new(text, start, move |side, desk| {
         let mut buffer = Bytes::new(0, length);
         let mut get = request(GET).buffer(&mut buffer);
-        time(1, transferred(length), || desk.cio(side, &mut get))
+        time(1, got_to_end(length), || desk.cio(side, &mut get))
     })
 }
 
@@ -538,11 +558,11 @@ fn measure_copies(kind: Kind, repetitions: usize) -> [f64; 2] {
     let mut get = request(GET).buffer(&mut buffer);
     medians(repetitions, [Way::Get, Way::Copies], |way| {
         desk.table = table;
-        time(1, transferred(length), || match way {
+        time(1, got_to_end(length), || match way {
             Way::Get => desk.cio(LIBRARY, &mut get),
             Way::Copies => {
                 copy_sectors(kind, &desk.image, get.buffer);
-                transferred(length)
+                got_to_end(length)
             }
         })
     })

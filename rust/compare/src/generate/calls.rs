@@ -1,11 +1,12 @@
 //! Calls of every kind.
 
 use model::directory::{DELETED, SLOTS};
-use model::disk::{is_data_sector, SECTORS};
+use model::disk::SECTORS;
 
 use crate::step::{Buffer, Call, Cio};
 use crate::world::World;
 
+use super::ends::GET;
 use super::records::{GET_RECORD, PUT_RECORD};
 use super::Generator;
 
@@ -39,7 +40,7 @@ enum Kind {
 const KINDS: &[(usize, Kind)] = &[
     (90, Kind::OpenRead),
     (110, Kind::OpenWrite),
-    (10, Kind::OpenOther),
+    (16, Kind::OpenOther),
     (90, Kind::GetRecord),
     (130, Kind::Get),
     (90, Kind::PutRecord),
@@ -81,9 +82,10 @@ impl Generator {
             Kind::Show => self.showing(world),
             Kind::ThinGet => {
                 let words = self.thin_record(world, 1);
+                let record = words.as_slice().try_into().ok();
                 Call::ThinGet {
+                    buffer: self.buffer_from(world, record),
                     words,
-                    buffer: self.get_buffer(),
                 }
             }
             Kind::ThinPut => {
@@ -171,11 +173,8 @@ impl Generator {
         };
         let channel = self.channel(world, kind);
         let buffer = match kind {
-            Kind::Get if self.random.chance(100) => {
-                Buffer::Fill(rest_of_sector(world, channel), self.random.byte())
-            }
             Kind::GetRecord => self.line_buffer(world, channel),
-            Kind::Get => self.get_buffer(),
+            Kind::Get => self.buffer_from(world, world.record_of(channel)),
             Kind::PutRecord => self.line_to_put(world, channel),
             Kind::Put => self.put_buffer(),
             _ if self.random.chance(900) => Buffer::Fill(0, 0),
@@ -195,7 +194,7 @@ impl Generator {
         match kind {
             Kind::OpenRead | Kind::OpenWrite | Kind::OpenOther => 3,
             Kind::GetRecord => GET_RECORD,
-            Kind::Get => 7,
+            Kind::Get => GET,
             Kind::PutRecord => PUT_RECORD,
             Kind::Put => 11,
             Kind::Close => 12,
@@ -209,7 +208,8 @@ impl Generator {
         }
     }
 
-    /// A channel in the state that the command needs, or now and then any.
+    /// A channel in the state that the command needs, for a get mostly one that is not at its file's
+    /// end; or now and then any.
     fn channel(&mut self, world: &World, kind: Kind) -> u8 {
         let suits = |record: [u16; 5]| match kind {
             Kind::GetRecord | Kind::Get => record[0] == 1,
@@ -217,11 +217,14 @@ impl Generator {
             Kind::Close => record[0] != 0,
             _ => record[0] == 0,
         };
-        let suited: Vec<u8> = (0..8)
-            .filter(|&channel| suits(world.record(channel.into())))
-            .collect();
-        if !suited.is_empty() && !self.random.chance(self.style.misfits) {
-            return self.random.pick(&suited);
+        if matches!(kind, Kind::GetRecord | Kind::Get) && self.random.chance(600) {
+            if let Some((channel, _)) = self.reading_channel(world) {
+                return channel;
+            }
+        }
+        let suited = self.channel_that(world, suits);
+        if let Some(channel) = suited.filter(|_| !self.random.chance(self.style.misfits)) {
+            return channel;
         }
         if self.random.chance(150) {
             return self.random.pick(&[8, 9, 16, 128, 255]);
@@ -379,24 +382,4 @@ fn possible(world: &World, kind: Kind) -> Kind {
         }
         kind => kind,
     }
-}
-
-/// The bytes that a reading channel has not yet handed out of the sector it is on, or of its
-/// slot's first sector before any.
-fn rest_of_sector(world: &World, channel: u8) -> usize {
-    match reading_place(world, channel) {
-        Some((sector, offset)) => world.used(sector).saturating_sub(offset),
-        None => 1,
-    }
-}
-
-/// The data sector that a reading channel is on, or its slot's first before any, and the bytes of
-/// it already handed out.
-pub(super) fn reading_place(world: &World, channel: u8) -> Option<(u16, usize)> {
-    let [_, slot, sector, offset, _] = world.record_of(channel)?;
-    let (sector, offset) = match sector {
-        0 if slot < u16::from(SLOTS) => (world.first(slot as u8), 0),
-        _ => (sector, offset),
-    };
-    is_data_sector(sector).then_some((sector, offset.into()))
 }

@@ -31,6 +31,7 @@ enum Place {
     First,
     Name,
     Tail,
+    End,
     Anything,
 }
 
@@ -47,11 +48,12 @@ const PLACES: &[(usize, Place)] = &[
     (8, Place::First),
     (12, Place::Name),
     (28, Place::Tail),
+    (20, Place::End),
     (4, Place::Anything),
 ];
 
 impl Generator {
-    fn poke(&mut self, at: usize, value: u8) {
+    pub(super) fn poke(&mut self, at: usize, value: u8) {
         let (sector, byte) = sector_and_byte(self.kind, at);
         let byte = byte as u8;
         self.planned.push_back(Step::Poke {
@@ -106,6 +108,7 @@ impl Generator {
             }
             Place::Name => self.damage_name(world, slot),
             Place::Tail => self.damage_tail(world, slot),
+            Place::End => self.damage_end(world, slot),
             Place::Anything => self.damage_anything(),
         }
     }
@@ -175,7 +178,7 @@ impl Generator {
     }
 
     /// Turns a map bit over and sets the free count to the number of ones.
-    fn flip_bit(&mut self, world: &World, sector: usize) {
+    pub(super) fn flip_bit(&mut self, world: &World, sector: usize) {
         let (byte, bit) = (sector / 8, 0x80 >> (sector % 8));
         let at = self.table(MAP + byte);
         let bits = world.image[at];
@@ -200,7 +203,7 @@ impl Generator {
         self.poke_word(self.table(FREE_COUNT), ones);
     }
 
-    fn damage_flag(&mut self, slot: u8) {
+    pub(super) fn damage_flag(&mut self, slot: u8) {
         const FLAGS: &[u8] = &[
             0x00, 0x01, 0x02, 0x20, 0x40, 0x41, 0x42, 0x42, 0x43, 0x43, 0x60, 0x62, 0x62, 0x63,
             0x80, 0x80, 0x81, 0xa2, 0xc0, 0xc2, 0xc3, 0xff,
@@ -231,12 +234,11 @@ impl Generator {
     /// Gives a file that is being written a count at the limit, and puts a line that may take it
     /// over that; another file any count.
     fn damage_count_before_line(&mut self, world: &World, slot: u8) {
-        let Some(channel) = self.writing_channel(world) else {
+        let Some((channel, slot)) = self.writing_channel(world) else {
             return self.damage_count(world, slot);
         };
-        let [_, slot, ..] = world.record(channel.into());
         let count = self.random.pick(&[DATA_SECTORS - 1, DATA_SECTORS]);
-        self.poke_word(self.kind.slot_start(slot as u8) + 1, count);
+        self.poke_word(self.kind.slot_start(slot) + 1, count);
         let length = self.near(self.kind.data());
         let put_record = Cio {
             buffer: Buffer::Fill(length, b'l'),
@@ -246,13 +248,13 @@ impl Generator {
     }
 
     /// Changes the slot number, the next sector or the count of a sector on a chain.
-    fn damage_tail(&mut self, world: &World, slot: u8) {
+    pub(super) fn damage_tail(&mut self, world: &World, slot: u8) {
         let sector = self.sector_of(world, slot);
         if !is_data_sector(sector) {
             return self.damage_flag(slot);
         }
         let at = world.tail_start(sector);
-        let [high, low, _] = world.tail(sector);
+        let [high, ..] = world.tail(sector);
         match self.random.below(4) {
             0 => {
                 let other = self.random.pick(&[slot + 1, slot, 0, 63, world.flag(0)]);
@@ -264,10 +266,7 @@ impl Generator {
                     1 => self.sector_of(world, slot),
                     _ => self.some_sector(),
                 };
-                self.poke(at, high & !3 | (next >> 8) as u8 & 3);
-                if low != next as u8 {
-                    self.poke(at + 1, next as u8);
-                }
+                self.set_next(world, sector, next);
             }
             _ => {
                 let full = self.kind.data() as u8;
@@ -275,6 +274,16 @@ impl Generator {
                 let used = self.random.pick(&counts);
                 self.poke(at + 2, used);
             }
+        }
+    }
+
+    /// Sets the next sector of a sector on a chain.
+    pub(super) fn set_next(&mut self, world: &World, sector: u16, next: u16) {
+        let at = world.tail_start(sector);
+        let [high, low, _] = world.tail(sector);
+        self.poke(at, high & !3 | (next >> 8) as u8 & 3);
+        if low != next as u8 {
+            self.poke(at + 1, next as u8);
         }
     }
 }

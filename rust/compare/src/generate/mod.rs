@@ -6,6 +6,7 @@
 
 mod calls;
 mod damage;
+mod ends;
 mod names;
 mod records;
 mod set_up;
@@ -20,6 +21,8 @@ use model::volume::has_good_table;
 use crate::random::Random;
 use crate::step::{Call, Lengths, Step, TABLE};
 use crate::world::{World, SPARE};
+
+use ends::has_closed_file;
 
 /// What kind of steps a case has.
 struct Style {
@@ -143,6 +146,8 @@ impl Generator {
             self.set_records(world);
         } else if self.random.chance(10) {
             self.format_anew(world);
+        } else if self.random.chance(25) && has_closed_file(world) {
+            self.read_through(world);
         } else {
             let mut call = self.call(world);
             let lengths = self.lengths(&call);
@@ -264,6 +269,24 @@ impl Generator {
         }
     }
 
+    /// A channel with a record as asked for, if there is one.
+    fn channel_that(&mut self, world: &World, wanted: impl Fn([u16; 5]) -> bool) -> Option<u8> {
+        let found = self.channel_with(world, |record| wanted(record).then_some(()));
+        found.map(|(channel, ())| channel)
+    }
+
+    /// A channel of which something is told by its record, and what that is, if there is one.
+    fn channel_with<T: Copy>(
+        &mut self,
+        world: &World,
+        told: impl Fn([u16; 5]) -> Option<T>,
+    ) -> Option<(u8, T)> {
+        let channels: Vec<(u8, T)> = (0..8)
+            .filter_map(|channel| Some((channel, told(world.record(channel.into()))?)))
+            .collect();
+        (!channels.is_empty()).then(|| self.random.pick(&channels))
+    }
+
     /// Any record, mostly one that nearly fits the disk.
     fn some_record(&mut self, world: &World) -> [u16; 5] {
         let slot = self.some_slot(world);
@@ -334,17 +357,12 @@ impl Generator {
 
 /// The data sectors of a slot's chain, no more than a disk has.
 fn chain(world: &World, slot: u8) -> Vec<u16> {
-    chain_from(world, world.first(slot))
+    chain_from(world, world.first(slot)).collect()
 }
 
 /// The data sectors that links lead to from one, no more than a disk has.
-fn chain_from(world: &World, first: u16) -> Vec<u16> {
+fn chain_from(world: &World, first: u16) -> impl Iterator<Item = u16> + '_ {
     let data_sector = |sector| is_data_sector(sector).then_some(sector);
-    let link = |&sector: &u16| {
-        let [high, low, _] = world.tail(sector);
-        data_sector(u16::from_be_bytes([high & 3, low]))
-    };
-    std::iter::successors(data_sector(first), link)
-        .take(DATA_SECTORS.into())
-        .collect()
+    let next = move |&sector: &u16| data_sector(world.next(sector));
+    std::iter::successors(data_sector(first), next).take(DATA_SECTORS.into())
 }

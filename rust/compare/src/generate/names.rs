@@ -122,7 +122,11 @@ impl Generator {
     /// The name of one file: so often of a thousand that of a slot.
     pub(super) fn name(&mut self, world: &World, of_slot: usize) -> Vec<u8> {
         let bad = self.random.chance(self.style.bad_names);
-        let place = if bad { self.random.below(4) } else { 9 };
+        let place = if bad {
+            self.random.pick(&[0, 0, 1, 2, 3])
+        } else {
+            9
+        };
         let device = self.device(place == 0);
         let text = if matches!(place, 1 | 2) {
             self.bad_text(world)
@@ -178,7 +182,7 @@ impl Generator {
 }
 
 /// The text of the name that a slot has, whatever its bytes are.
-fn slot_text(world: &World, slot: u8) -> Vec<u8> {
+pub(super) fn slot_text(world: &World, slot: u8) -> Vec<u8> {
     let name = world.slot_name(slot);
     let (stem, extension) = name.split_at(8);
     let mut text = stem.trim_ascii_end().to_vec();

@@ -6,16 +6,16 @@ use model::disk::is_data_sector;
 use crate::step::Buffer;
 use crate::world::World;
 
-use super::calls::reading_place;
 use super::damage::free_count;
-use super::{chain_from, Generator};
+use super::ends::ReadingPlace;
+use super::Generator;
 
 /// The commands' numbers.
 pub(super) const GET_RECORD: u8 = 5;
 pub(super) const PUT_RECORD: u8 = 9;
 
 /// The byte that ends a line.
-const END_OF_LINE: u8 = 0x9b;
+pub(super) const END_OF_LINE: u8 = 0x9b;
 
 /// The longest line of most files.
 const SHORT_LINE: usize = 60;
@@ -40,7 +40,7 @@ impl Generator {
                 false => self.random.between(b'a'.into(), b'z'.into()) as u8,
             })
             .collect();
-        if let Some(last) = text.last_mut().filter(|_| self.random.chance(300)) {
+        if let Some(last) = text.last_mut().filter(|_| self.random.chance(500)) {
             *last = END_OF_LINE;
         }
         text
@@ -61,14 +61,11 @@ impl Generator {
         Buffer::Fill(length, self.random.byte())
     }
 
-    /// A channel that writes the file of a slot, if there is one.
-    pub(super) fn writing_channel(&mut self, world: &World) -> Option<u8> {
-        let writes = |&channel: &u8| {
-            let [kind, slot, ..] = world.record(channel.into());
-            kind == 2 && slot < u16::from(SLOTS)
-        };
-        let channels: Vec<u8> = (0..8).filter(writes).collect();
-        (!channels.is_empty()).then(|| self.random.pick(&channels))
+    /// A channel that writes the file of a slot, and the slot, if there is one.
+    pub(super) fn writing_channel(&mut self, world: &World) -> Option<(u8, u8)> {
+        self.channel_with(world, |[kind, slot, ..]| {
+            (kind == 2 && slot < u16::from(SLOTS)).then_some(slot as u8)
+        })
     }
 
     /// The bytes of a put record, with or without an end of line.
@@ -102,16 +99,12 @@ impl Generator {
 /// The bytes from a reading channel's place through the next end of line, or one more than to the
 /// end of its chain.
 fn line_ahead(world: &World, channel: u8) -> usize {
-    let Some((sector, offset)) = reading_place(world, channel) else {
+    let record = world.record_of(channel);
+    let Some(place) = record.and_then(|record| ReadingPlace::of(world, record)) else {
         return 1;
     };
-    let bytes = chain_from(world, sector).into_iter().flat_map(|sector| {
-        let start = world.kind.sector_start(sector);
-        let used = world.used(sector).min(world.kind.data());
-        &world.image[start..start + used]
-    });
     let before_end = |&&byte: &&u8| byte != END_OF_LINE;
-    1 + bytes.skip(offset).take_while(before_end).count()
+    1 + place.bytes_ahead(world).take_while(before_end).count()
 }
 
 /// The bytes that still fit into the last sector of a writing channel's file.

@@ -58,7 +58,7 @@ fn answers(printed: &str) -> Vec<String> {
 #[test]
 fn every_line_of_the_comparison_answers_as_the_model_does() {
     let folder = Folder::new();
-    let (mut protected, mut padded, mut truncated) = (0, 0, 0);
+    let (mut protected, mut padded, mut truncated, mut ended) = (0, 0, 0, 0);
     for seed in 0..60 {
         let mut world = World::fresh(Kind::Raw);
         let mut generator = Generator::new(seed);
@@ -84,10 +84,12 @@ fn every_line_of_the_comparison_answers_as_the_model_does() {
         };
         protected += answered("144;");
         truncated += answered("137;");
+        ended += answered("3;");
     }
     assert!(protected > 0, "no call has the notch closed");
     assert!(padded > 0, "no name is padded with blanks");
     assert!(truncated > 0, "no line is longer than its buffer");
+    assert!(ended > 0, "no get comes to its file's end");
 }
 
 /// The cases that the comparison prints for two faults of the model, where it is lent an image of another length.

@@ -223,6 +223,51 @@ thin-get 1 0 0 0 1 5*BB
 }
 
 #[test]
+fn shell_tells_the_files_end() {
+    let script = r#"
+open 0 write A
+put 0 "ab\x9Bcd\x9B"
+close 0
+open 0 read A
+get-record 0 9
+get-record 0 9
+get-record 0 0
+get-record 0 9
+cio 0 12 0 "" -
+cio 0 3 4 "D:A\x9B" -
+cio 0 7 0 "" 5*AA
+cio 0 7 0 "" 1*AA
+cio 0 7 0 "" 1*AA
+thin-get 1 0 4 3 7 3*AA
+"#;
+    let expected = "\
+1 success; count 0
+1 success; count 6
+1 success; count 0
+1 success; count 0
+1 success; count 3
+  0000  61 62 9B                                         ab.
+3 success, and the file's end was reached; count 3
+  0000  63 64 9B                                         cd.
+1 success; count 0
+136 the file has ended; count 0
+1 success; count 0
+1 success; count 0
+1 success; count 5
+  0000  61 62 9B 63 64                                   ab.cd
+3 success, and the file's end was reached; count 1
+  0000  9B                                               .
+136 the file has ended; count 0
+  0000  AA                                               .
+3 success, and the file's end was reached; count 3
+record 1 0 4 6 7
+  0000  63 64 9B                                         cd.
+";
+    let folder = Folder::new();
+    assert_eq!(folder.shell(&[], script), (expected.to_string(), Some(0)));
+}
+
+#[test]
 fn shell_makes_the_calls_on_a_record_and_on_a_name() {
     let script = r#"
 open 0 write A

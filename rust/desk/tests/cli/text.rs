@@ -181,7 +181,10 @@ cio 0 5 0 "" -
     let (printed, status) = Folder::new().shell(&[], script);
     let lines: Vec<&str> = printed.lines().collect();
     assert_eq!(lines[1], "1 success; count 2");
-    assert_eq!(lines[4], "1 success; count 3");
+    assert_eq!(
+        lines[4],
+        "3 success, and the file's end was reached; count 3"
+    );
     assert!(lines[5].starts_with("  0000  61 62 9B AA AA "), "{printed}");
     assert_eq!(lines[6], "136 the file has ended; count 0");
     assert!(lines[7].starts_with("  0000  AA AA "), "{printed}");

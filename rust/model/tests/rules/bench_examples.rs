@@ -1,4 +1,4 @@
-//! The ten bench examples of the paper.
+//! The ten bench examples of the paper, the sixth as request P2 changes it.
 
 use super::common::*;
 use model::sound::is_sound;
@@ -89,7 +89,7 @@ fn example_6_end_of_file() {
     assert_eq!(desk.cio(0, OPEN, 4, b"D:A\x9b"), (1, 0));
     assert_eq!(desk.get(0, 5), ((136, 3), b"abc\xee\xee".to_vec()));
     assert_eq!(desk.cio(1, OPEN, 4, b"D:A\x9b"), (1, 0));
-    assert_eq!(desk.get(1, 3), ((1, 3), b"abc".to_vec()));
+    assert_eq!(desk.get(1, 3), ((3, 3), b"abc".to_vec()));
     assert_eq!(desk.get(1, 1), ((136, 0), b"\xee".to_vec()));
 }
 

@@ -204,11 +204,8 @@ fn closed_channels() {
 fn thin_calls_advance_a_record() {
     let mut desk = one_file();
     let mut words = [1, 0, 0, 0, 3];
-    let mut buffer = [0; DATA + 5];
-    assert_eq!(
-        answer(model::thin_get(&desk.image, &mut words, &mut buffer)),
-        (1, DATA as u64 + 5)
-    );
+    let (answer, _) = desk.thin_get(&mut words, DATA + 5);
+    assert_eq!(answer, (1, DATA as u64 + 5));
     assert_eq!(words, [1, 0, 5, 5, 1]);
     assert_eq!(desk.cio(0, OPEN, 8, b"D:B\x9b"), (1, 0));
     let mut words = [2, 1, 7, 3, 3];

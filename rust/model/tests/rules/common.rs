@@ -20,6 +20,9 @@ pub const LOCK: u8 = 35;
 pub const UNLOCK: u8 = 36;
 pub const FORMAT: u8 = 254;
 
+/// The byte that ends a line.
+pub const END: u8 = 0x9b;
+
 /// Device and unit of sector calls.
 pub const DRIVE: (u8, u8) = (0x31, 1);
 
@@ -72,8 +75,20 @@ pub fn slot(number: usize) -> usize {
     sector(361 + number / 8) + 16 * (number % 8)
 }
 
+/// A line of so many bytes, its `$9B` the last of them.
+pub fn line(length: usize) -> Vec<u8> {
+    let mut line = vec![b'x'; length];
+    line[length - 1] = END;
+    line
+}
+
 /// A status and its count.
 pub type Answer = (u8, u64);
+
+/// A call with this status did all that it was asked for.
+pub fn succeeds(status: u8) -> bool {
+    matches!(status, 1 | 3)
+}
 
 /// A call's number taken apart.
 pub fn answer(number: u64) -> Answer {
@@ -172,6 +187,13 @@ impl Desk {
         (answer(number), buffer)
     }
 
+    /// A thin get into a buffer of `$EE`.
+    pub fn thin_get(&self, words: &mut [u16], length: usize) -> (Answer, Vec<u8>) {
+        let mut buffer = vec![0xee; length];
+        let number = model::thin_get(&self.image, words, &mut buffer);
+        (answer(number), buffer)
+    }
+
     pub fn thin_put(&mut self, words: &mut [u16], bytes: &[u8]) -> Answer {
         answer(model::thin_put(&mut self.image, self.notch, words, bytes))
     }
@@ -215,4 +237,12 @@ impl Desk {
         assert_eq!(count, 0);
         status
     }
+}
+
+/// A disk with file A in slot 0, which channel 0 reads from its beginning.
+pub fn reading(bytes: &[u8]) -> Desk {
+    let mut desk = Desk::new();
+    desk.make(b"D:A\x9b", bytes);
+    assert_eq!(desk.cio(0, OPEN, 4, b"D:A\x9b"), (1, 0));
+    desk
 }

@@ -5,6 +5,7 @@ mod common;
 mod bench_examples;
 mod blanks;
 mod channels;
+mod end_reached;
 mod notch;
 mod records;
 mod status_table;

@@ -137,7 +137,7 @@ fn a_writing_channel_whose_close_answers_144_stays_open() {
 fn what_only_reads_is_served() {
     let mut desk = busy_disk(1);
     let image = desk.image.clone();
-    assert_eq!(desk.get(1, 3), ((1, 3), b"abc".to_vec()));
+    assert_eq!(desk.get(1, 3), ((3, 3), b"abc".to_vec()));
     assert_eq!(desk.cio(1, CLOSE, 0, b""), (1, 0));
     assert_eq!(desk.record(1), [0; 5]);
     assert_eq!(desk.cio(1, CLOSE, 0, b""), (1, 0));

@@ -4,17 +4,6 @@
 
 use super::common::*;
 
-/// The byte that ends a line.
-const END: u8 = 0x9b;
-
-/// A disk with file A in slot 0, which channel 0 reads from its beginning.
-fn reading(bytes: &[u8]) -> Desk {
-    let mut desk = Desk::new();
-    desk.make(b"D:A\x9b", bytes);
-    assert_eq!(desk.cio(0, OPEN, 4, b"D:A\x9b"), (1, 0));
-    desk
-}
-
 /// A disk with an empty file A in slot 0, which channel 0 writes.
 fn writing() -> Desk {
     let mut desk = Desk::new();
@@ -26,13 +15,6 @@ fn writing() -> Desk {
 fn written(mut desk: Desk) -> Vec<u8> {
     assert_eq!(desk.cio(0, CLOSE, 0, b""), (1, 0));
     desk.bytes(b"D:A\x9b")
-}
-
-/// A line of so many bytes, its `$9B` the last of them.
-fn line(length: usize) -> Vec<u8> {
-    let mut line = vec![b'x'; length];
-    line[length - 1] = END;
-    line
 }
 
 #[test]
@@ -55,12 +37,12 @@ fn get_record_fills_the_buffer_through_the_first_end_of_line() {
 fn an_end_of_line_may_be_the_last_byte_of_the_buffer() {
     let mut desk = reading(b"ab\x9bc\x9b");
     assert_eq!(desk.get_record(0, 3), ((1, 3), b"ab\x9b".to_vec()));
-    assert_eq!(desk.get_record(0, 2), ((1, 2), b"c\x9b".to_vec()));
+    assert_eq!(desk.get_record(0, 2), ((3, 2), b"c\x9b".to_vec()));
     // At the end of a sector too: the next one is not entered.
     let mut desk = reading(&[line(DATA), line(2)].concat());
     assert_eq!(desk.get_record(0, DATA), ((1, DATA as u64), line(DATA)));
     assert_eq!(desk.record(0), [1, 0, 4, DATA as u16, 1]);
-    assert_eq!(desk.get_record(0, 9).0, (1, 2));
+    assert_eq!(desk.get_record(0, 9).0, (3, 2));
     assert_eq!(desk.record(0), [1, 0, 5, 2, 0]);
 }
 
@@ -72,12 +54,12 @@ fn a_line_goes_over_sectors() {
     assert_eq!(answer, (1, long.len() as u64));
     assert_eq!(buffer[..long.len()], long);
     assert_eq!(desk.record(0), [1, 0, 6, 7, 0]);
-    assert_eq!(desk.get_record(0, 5), ((1, 5), b"next\x9b".to_vec()));
+    assert_eq!(desk.get_record(0, 5), ((3, 5), b"next\x9b".to_vec()));
     // Sectors with count 0 are passed through.
     let mut desk = reading(&[vec![b'x'; 2 * DATA], line(3)].concat());
     desk.set_tail(4, [0, 5, 0]);
     desk.set_tail(5, [0, 6, 0]);
-    assert_eq!(desk.get_record(0, 3), ((1, 3), line(3)));
+    assert_eq!(desk.get_record(0, 3), ((3, 3), line(3)));
     assert_eq!(desk.record(0), [1, 0, 6, 3, 0]);
 }
 
@@ -91,13 +73,13 @@ fn a_full_buffer_drops_the_rest_of_the_line() {
         let [kind, slot, sector, place, _] = desk.record(0);
         let behind = [1, 0, 4 + last as u16, offset as u16];
         assert_eq!([kind, slot, sector, place], behind, "behind the $9B");
-        assert_eq!(desk.get_record(0, 5), ((1, 5), b"next\x9b".to_vec()));
+        assert_eq!(desk.get_record(0, 5), ((3, 5), b"next\x9b".to_vec()));
     }
     // No further than the first.
     let mut desk = reading(b"abcd\x9be\x9bf\x9b");
     assert_eq!(desk.get_record(0, 2), ((137, 2), b"ab".to_vec()));
     assert_eq!(desk.get_record(0, 1), ((137, 1), b"e".to_vec()));
-    assert_eq!(desk.get_record(0, 9).0, (1, 2));
+    assert_eq!(desk.get_record(0, 9).0, (3, 2));
 }
 
 #[test]
@@ -105,7 +87,7 @@ fn it_drops_also_where_the_end_of_line_is_the_next_byte() {
     let mut desk = reading(b"ab\x9bcd\x9b");
     assert_eq!(desk.get_record(0, 2), ((137, 2), b"ab".to_vec()));
     assert_eq!(desk.record(0), [1, 0, 4, 3, 0]);
-    assert_eq!(desk.get_record(0, 3), ((1, 3), b"cd\x9b".to_vec()));
+    assert_eq!(desk.get_record(0, 3), ((3, 3), b"cd\x9b".to_vec()));
     // The next byte may be the first of another sector.
     let mut desk = reading(&line(DATA + 1));
     assert_eq!(desk.get_record(0, DATA).0, (137, DATA as u64));
@@ -325,7 +307,7 @@ fn commands_5_and_9_have_the_checks_of_7_and_11() {
         assert_eq!(desk.put_record(1, bytes), (135, 0));
     }
     // A get asks nothing of the table, a put does, before it looks at its record.
-    assert_eq!(desk.get_record(1, 3), ((1, 3), b"ab\x9b".to_vec()));
+    assert_eq!(desk.get_record(1, 3), ((3, 3), b"ab\x9b".to_vec()));
     assert_eq!(desk.refused(2, PUT_RECORD, 0, b""), 163);
     desk.image.truncate(9);
     assert_eq!(desk.refused(8, GET_RECORD, 0, b""), 203);
@@ -351,7 +333,7 @@ fn the_notch_refuses_put_record_behind_the_rows_of_the_channel() {
     // A get record could not change the image.
     let mut desk = reading(b"ab\x9b");
     desk.notch = 1;
-    assert_eq!(desk.get_record(0, 3), ((1, 3), b"ab\x9b".to_vec()));
+    assert_eq!(desk.get_record(0, 3), ((3, 3), b"ab\x9b".to_vec()));
 }
 
 #[test]
@@ -408,9 +390,10 @@ fn what_put_record_writes_get_record_reads() {
     }
     assert_eq!(desk.cio(0, CLOSE, 0, b""), (1, 0));
     assert_eq!(desk.cio(0, OPEN, 4, b"D:A\x9b"), (1, 0));
-    for bytes in &lines {
+    for (place, bytes) in lines.iter().enumerate() {
         let (answer, buffer) = desk.get_record(0, 4 * DATA);
-        assert_eq!(answer, (1, bytes.len() as u64 + 1));
+        let status = if place + 1 == lines.len() { 3 } else { 1 };
+        assert_eq!(answer, (status, bytes.len() as u64 + 1));
         assert_eq!(buffer[..=bytes.len()], [&bytes[..], &[END]].concat());
     }
     assert_eq!(desk.get_record(0, 4 * DATA).0, (136, 0));
@@ -423,13 +406,13 @@ fn by_single_bytes(desk: &mut Desk, length: usize) -> (Answer, Vec<u8>) {
     loop {
         let ((status, _), byte) = desk.get(0, 1);
         let full = done == length;
-        if status == 1 && !full {
+        if succeeds(status) && !full {
             buffer[done] = byte[0];
             done += 1;
         }
         let status = match status {
-            1 if byte[0] != END => continue,
-            1 | 136 if full => 137,
+            1 | 3 if byte[0] != END => continue,
+            1 | 3 | 136 if full => 137,
             status => status,
         };
         return ((status, done as u64), buffer);
@@ -441,8 +424,9 @@ fn get_record_moves_its_channel_as_gets_of_single_bytes() {
     for gap in [1, 2, 7, 50, DATA - 1, DATA, DATA + 1, 1000] {
         let text = (1..=2 * DATA + 50).map(|place| if place % gap == 0 { END } else { b'x' });
         let whole = reading(&text.collect::<Vec<u8>>());
-        let mut empty_sector = whole.clone();
+        let [mut empty_sector, mut empty_last] = [whole.clone(), whole.clone()];
         empty_sector.set_tail(5, [0, 6, 0]);
+        empty_last.set_tail(6, [0, 0, 0]);
         let damaged = NOT_ENTERED.map(|(link, tail, left)| {
             let mut desk = whole.clone();
             desk.set_tail(4, link);
@@ -450,7 +434,8 @@ fn get_record_moves_its_channel_as_gets_of_single_bytes() {
             desk.set_record(0, [1, 0, 0, 0, left]);
             desk
         });
-        for start in [whole, empty_sector].into_iter().chain(damaged) {
+        let starts = [whole, empty_sector, empty_last];
+        for start in starts.into_iter().chain(damaged) {
             for length in [
                 1,
                 2,
@@ -467,7 +452,7 @@ fn get_record_moves_its_channel_as_gets_of_single_bytes() {
             ] {
                 let (mut desk, mut other) = (start.clone(), start.clone());
                 let mut status = 1;
-                while matches!(status, 1 | 137) {
+                while succeeds(status) || status == 137 {
                     let (answer, buffer) = desk.get_record(0, length);
                     assert_eq!((answer, buffer), by_single_bytes(&mut other, length));
                     assert_eq!(desk.record(0), other.record(0));

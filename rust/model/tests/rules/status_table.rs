@@ -274,7 +274,7 @@ fn row_163_volume_table() {
         assert_eq!(desk.recover(1), (163, 0));
         assert_eq!(desk.cio(0, STATUS, 0, b"D:A\x9b"), (1, 0));
         assert_eq!(desk.cio(0, OPEN, 4, b"D:A\x9b"), (1, 0));
-        assert_eq!(desk.get(0, 1).0, (1, 1));
+        assert_eq!(desk.get(0, 1).0, (3, 1));
         assert_eq!(desk.cio(0, CLOSE, 0, b""), (1, 0));
         assert_eq!(desk.cio(1, CLOSE, 0, b""), (164, 0));
         assert_eq!(desk.cio(0, FORMAT, 0, b"D:\x9b"), (1, 0));

@@ -1,5 +1,5 @@
 use mathlib.Core.Path.{refl}
-use Rattle.rules.specs.Get.{readOn}
+use Rattle.rules.specs.Get.{readOn, orEndReached, getAs}
 use borrow.Author.Needs.{needs}
 use Rattle.gets.proofs.channel.get_as.Statement.{statement}
 use Rattle.gets.proofs.channel.get_as.Tie as tie
@@ -23,7 +23,7 @@ refused-requires-2 : tie.Need-refused-requires-2
 refused-requires-2 c κs = search needs
 
 returns : tie.Need-returns
-unfolding readOn
+unfolding readOn orEndReached getAs
 returns c = let e = c .before .enum-told .given .1 in rw e (rw e at (c .refused .ensures), refl)
 
 same-length : tie.Need-same-length
@@ -33,7 +33,7 @@ returns-2 : tie.Need-returns-2
 returns-2 c = rw (c .before .before .before .before .before .st .given .1) (c .before .before .get-reading .ensures)
 
 returns-3 : tie.Need-returns-3
-unfolding readOn
+unfolding readOn orEndReached getAs
 returns-3 c = let e = c .before .enum-told2 .given .1 in rw e (rw e at (c .refused2 .ensures), refl)
 
 pub get-as-spec : {M : Type 1} → statement M

@@ -1,10 +1,10 @@
-use Rattle.rules.specs.Get.{GetOutcome, gets, readOn}
+use Rattle.rules.specs.Get.{gets}
+use Rattle.rules.proofs.Reached.{gets-none, gets-broken, gets-some}
 use Rattle.gets.proofs.Seeking.{readable-entered}
-use Rattle.layout.proofs.Check.{check-yes, check-no}
+use Rattle.gets.proofs.Ending.{told-answer}
 use native.Mathlib.Omega.{arith}
-use borrow.Author.Tests.{eq-eqb, ne-eqb, not-false}
+use borrow.Author.Tests.{not-true, not-false}
 use mathlib.Core.Path.{sym, ap, _∙_}
-use mathlib.Core.Bool.{not}
 use borrow.Author.Needs.{needs}
 use Rattle.gets.proofs.channel.get_reading.Statement.{statement}
 use Rattle.gets.proofs.channel.get_reading.Tie as tie
@@ -13,8 +13,7 @@ reading-requires : tie.Need-reading-requires
 reading-requires c κs = search needs
 
 returns : tie.Need-returns
-unfolding readOn
-returns c = let e = check-yes {A = GetOutcome} _ _ _ (eq-eqb _ 0 (c .before .if1 .taken)) in
+returns c = let e = gets-none _ _ _ _ _ _ _ _ (c .before .if1 .taken) in
     (c .reading .ensures ∙ ap (λ o. o .answer) (sym e), ap (λ o. o .buffer) (sym e))
 
 readable-requires : tie.Need-readable-requires
@@ -24,8 +23,7 @@ reading-requires-2 : tie.Need-reading-requires-2
 reading-requires-2 c κs = search needs
 
 returns-2 : tie.Need-returns-2
-unfolding readOn
-returns-2 c = let e = check-no {A = GetOutcome} _ _ _ (ne-eqb _ 0 (c .before .before .before .if1 .left)) ∙ check-yes {A = GetOutcome} _ _ _ (ap not (sym (c .before .before .readable .ensures)) ∙ c .before .if2 .taken) in
+returns-2 c = let e = gets-broken _ _ _ _ _ _ _ _ (c .before .before .before .if1 .left) (sym (c .before .before .readable .ensures) ∙ not-true _ (c .before .if2 .taken)) in
     (c .reading2 .ensures ∙ ap (λ o. o .answer) (sym e), ap (λ o. o .buffer) (sym e))
 
 fill-requires : tie.Need-fill-requires
@@ -38,11 +36,12 @@ same-length : tie.Need-same-length
 same-length c = search needs
 
 returns-3 : tie.Need-returns-3
-unfolding readOn gets
+unfolding gets
 returns-3 c =
     let at = c .before .before .before .before in
-    let e = check-no {A = GetOutcome} _ _ _ (ne-eqb _ 0 (at .before .before .before .before .if1 .left)) ∙ check-no {A = GetOutcome} _ _ _ (ap not (sym (at .before .before .before .readable .ensures)) ∙ at .before .before .if2 .left) in
-    (sym (ap (λ o. o .answer) e ∙ (cc)), at .fill .ensures .1 ∙ ap (λ o. o .buffer) (sym e))
+    let n = at .before .before .before .before .if1 .left in
+    let e = gets-some _ _ _ _ _ _ _ _ n (sym (at .before .before .before .readable .ensures) ∙ not-false _ (at .before .before .if2 .left)) in
+    (c .reading3 .ensures ∙ told-answer _ _ _ _ _ _ (at .fill .ensures .0) ∙ ap (λ o. o .answer) (sym e), at .fill .ensures .1 ∙ ap (λ o. o .buffer) (sym e))
 
 pub get-reading-spec : {M : Type 1} → statement M
 get-reading-spec =
