@@ -1,4 +1,6 @@
 // Bits of a byte: one read, set or cleared, all counted, the highest found; and which sectors are data sectors.
+#![tactic(auto)]
+
 ghost use Rattle.std.specs.Prelude.{◌≡◌, ◌<◌};
 ghost use Rattle.std.specs.Int.Count.{ones_in};
 ghost use Rattle.layout.specs.Volume.{data_sector, bit, bit_on, bit_off};

@@ -1,4 +1,6 @@
 // The bytes of a lent text, and the runs of letters and digits in it.
+#![tactic(auto)]
+
 ghost use Rattle.std.specs.Prelude.{◌≡◌, ◌+◌, ◌≤◌};
 ghost use Rattle.layout.specs.Basics.{first_from};
 ghost use Rattle.layout.specs.Names.{char, letter, digit, plain, ending, comma, not_plain};

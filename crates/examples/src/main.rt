@@ -13,6 +13,8 @@
 //   read S N        sector S read into N bytes: the status and the count
 //   at, value, slot, link S B   byte B of sector S in base 16, with the next one a word, the slot's number or the next sector that they say
 //   image B         byte B of the image in base 16
+#![tactic(auto)]
+
 mod acts;
 mod order;
 mod script;

@@ -1,4 +1,6 @@
 // A formatted disk: all zero but a good table with 707 free, and the header, which stays.
+#![tactic(auto)]
+
 ghost use Rattle.std.specs.Prelude.{◌≡◌};
 ghost use Rattle.layout.specs.Image.{Whole, geometry_of, view};
 ghost use Rattle.layout.specs.Volume.{formatted};

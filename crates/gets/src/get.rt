@@ -49,7 +49,7 @@ pub fn told(m: Medium, image: &[u8], r: Got) -> Got
 }
 
 // A place that was reached, and the bytes of the buffer that are filled there.
-#[derive(Drop)]
+#[derive(Clone, Copy)]
 struct Reached {
     place: Place,
     count: usize,

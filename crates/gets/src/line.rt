@@ -19,7 +19,7 @@ use runs::find::end_in;
 use runs::run::{get_run, least};
 
 // The part of a line that lies in one sector: how many bytes, and whether the last of them is its $9B.
-#[derive(Drop)]
+#[derive(Clone, Copy)]
 struct Part {
     length: usize,
     ended: bool,

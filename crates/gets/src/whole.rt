@@ -11,7 +11,7 @@ use layout::density::{Density, Medium};
 use runs::run::get_data;
 
 // The end of a full sector, the sectors yet to enter from there, and the bytes of the buffer that are filled.
-#[derive(Drop)]
+#[derive(Clone, Copy)]
 pub struct Filled {
     pub sector: u16,
     pub left: u16,

@@ -3,7 +3,7 @@ ghost use Rattle.std.specs.Prelude.{◌≡◌};
 ghost use Rattle.layout.specs.Image.{single_density, double_density};
 
 // A density: the bytes of its sectors from the fourth on, and how many of a file sector's bytes are data.
-#[derive(Drop)]
+#[derive(Clone, Copy)]
 pub struct Density {
     pub size: usize,
     pub room: usize,
@@ -54,7 +54,7 @@ impl Density {
 }
 
 // Where the sectors of an image lie: behind its header, at the sizes of its density. It goes by value through every function that touches the image.
-#[derive(Drop)]
+#[derive(Clone, Copy)]
 pub struct Medium {
     pub header: usize,
     pub density: Density,

@@ -1,4 +1,6 @@
 // What an image is served as.
+#![tactic(auto)]
+
 ghost use Rattle.std.specs.Prelude.{◌≡◌, ◌≤◌, ◌<◌, length};
 ghost use Rattle.layout.specs.Basics.{all_below};
 ghost use Rattle.layout.specs.Header.{served_as, TellsServed};

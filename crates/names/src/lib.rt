@@ -1,4 +1,6 @@
 // Names taken apart: `D:` or `D1:`, a name and its extension; rename's two names; format's device alone.
+#![tactic(auto)]
+
 ghost use Rattle.std.specs.Prelude.{◌≡◌, ◌+◌, ◌≤◌, ◌<◌, length};
 ghost use Rattle.layout.specs.declared.Name.TheVariants.{Refused};
 ghost use Rattle.layout.specs.Names.{has_device, has_unit, body, name_end, whole_end, well_formed, padded, as_word, name_byte, name_at, read_as, read_name, parsed, parse_name, old_name, new_name, read_device, name_status, TellsName, TellsParsed};

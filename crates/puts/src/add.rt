@@ -20,7 +20,7 @@ use volume::lowest::{lowest_free, lowest_from};
 use volume::map::{free_count, is_free, less, mark_used, write_free_count};
 
 // How far bytes have been added: the last sector, how many of them, and the sector from which the next search goes on.
-#[derive(Drop)]
+#[derive(Clone, Copy)]
 struct Reached {
     sector: u16,
     count: usize,
@@ -28,7 +28,7 @@ struct Reached {
 }
 
 // A sector with room, or 0, and the sector from which the next search goes on.
-#[derive(Drop)]
+#[derive(Clone, Copy)]
 struct Spot {
     sector: u16,
     from: u16,

@@ -33,7 +33,7 @@ pub fn shows(image: &[u8], slot: u16, sector: u16) -> bool
 }
 
 // The part that is shown: where it starts, and how many bytes it has. It is empty and at the image's start where the answer is no.
-#[derive(Drop)]
+#[derive(Clone, Copy)]
 struct Part {
     start: usize,
     len: usize,

@@ -1,4 +1,6 @@
 // The thin calls: one channel record is lent, to be advanced by a read or a write.
+#![tactic(auto)]
+
 pub mod by_value;
 
 ghost use Rattle.std.specs.Prelude.{◌≡◌};
