@@ -89,8 +89,8 @@ module _ (g : Geometry) (d : Disk) where
   call_answers : {t : Table} {k : Kind} {c : Call} {o : Outcome} → Ends g d t k c o → Among (answers_to c) o.effect.status
   unfolding command_answers open_answers check member
   call_answers (refuses n w m) = m
-  call_answers (reads {f = f} {b = b} s k o l h) = rw (answers_are _ _ h.on) (read_answers_lem f _ s _ b _)
-  call_answers (reads_none {f = f} o e) = rw (answers_are _ _ o) (none_answers f _)
+  call_answers (reads {f = f} {c = c} {b = b} s k o l h) = rw (answers_are _ _ h.on) (read_answers_lem f c.direction s _ b _)
+  call_answers (reads_none {f = f} {c = c} o e) = rw (answers_are _ _ o) (none_answers f c.direction)
   call_answers (writes {f = f} {b = b} s p h) = rw (answers_are _ _ h.on) (by_put_from g (Among put_answers) refl refl (sent f b) d s p 0)
   call_answers (writes-none o e) = rw (answers_are _ _ o) refl
   call_answers (frees o h) = rw (answers_are _ _ o) refl
