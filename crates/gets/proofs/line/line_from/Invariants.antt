@@ -1,0 +1,13 @@
+use Rattle.gets.specs.Entered.{Comes}
+use Rattle.rules.specs.declared.Form.TheVariants.{Record}
+use Rattle.layout.specs.Image.{geometry_of, view}
+use lib.ListN.{length}
+use Prim.Native.Nat.{◌-◌}
+use mathlib.Core.Path.{◌≡◌}
+use Rattle.gets.proofs.line.line_from.Given as goal
+
+abbrev pub invariant-loop-i : goal.invariant-loop-i
+invariant-loop-i l = (length l.buffer ≡ length l.initial.buffer) × Comes (geometry_of l.m) Record (view (geometry_of l.m) l.image) l.slot l.most 0 l.initial.p l.initial.buffer l.i l.p l.buffer
+
+abbrev pub decreases-loop-i : goal.decreases-loop-i
+decreases-loop-i l = l.most - l.i

@@ -1,0 +1,16 @@
+use native.Mathlib.Omega.{arith}
+use Rattle.rules.specs.Get.{next_to_enter}
+use borrow.Author.Tests.{eq-eqb, ne_eqb}
+use borrow.Author.Rules.{rules}
+use Rattle.gets.proofs.seek.next_to_enter.Goals as goal
+
+pub returns-then-sector-eq0 : goal.returns-then-sector-eq0
+unfolding next_to_enter
+returns-then-sector-eq0 c = rw (eq-eqb c.args.sector 0 c.if-sector-eq0.true) c.first.ensures
+
+pub next-requires : goal.next-requires
+next-requires c = let n = c.if-sector-eq0.false in let f = c.requires.3 (omega (arith, n)) in search rules
+
+pub returns : goal.returns
+unfolding next_to_enter
+returns c = rw (ne_eqb c.args.sector 0 c.if-sector-eq0.false) c.next.ensures
