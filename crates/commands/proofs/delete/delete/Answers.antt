@@ -8,7 +8,7 @@ use Rattle.commands.proofs.delete.delete.Goals as goal
 
 pub returns-in_default : goal.returns-in_default
 unfolding delete_call
-returns-in_default c = let e = aimed-other _ _ _ _ _ _ c.find_named-a.ensures.0.0 c.in_default.in_default-own.keys2 in (told _ e (c.answer.ensures ∙ rw c.target_status.ensures), told-disk _ e refl)
+returns-in_default c = let e = aimed-other _ _ _ _ _ _ c.find_named-a.ensures.0.0 c.in_default.not-Slot in (told _ e (c.answer.ensures ∙ rw c.target_status.ensures), told-disk _ e refl)
 
 pub delete_at-requires : goal.delete_at-requires
 delete_at-requires c = (c.requires, subst InSlot c.in-Slot.is c.find_named-a.ensures.1)

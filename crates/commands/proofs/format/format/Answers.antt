@@ -1,13 +1,8 @@
 use mathlib.Core.Path.{refl, sym, ◌∙◌}
-use Rattle.layout.specs.Image.{geometry_of, view}
 use Rattle.layout.proofs.Check.{check_yes, check_no}
 use Rattle.rules.specs.Commands.{format_call}
-use Rattle.rules.proofs.Told.{Down, told, told-disk, passing_not, passing_is}
+use Rattle.rules.proofs.Told.{told, told-disk, passing_not, passing_is}
 use Rattle.commands.proofs.format.format.Goals as goal
-
-abbrev past-device : (c : goal.Else-n-ne-SUCCESS) → let a = c.args in Down (format_call (geometry_of a.m) (view (geometry_of a.m) a.image.now) a.t a.text.now)
-unfolding format_call
-past-device c = (_, passing_is _ _ _ c.read_device-n.ensures c.if-n-ne-SUCCESS.false)
 
 pub returns-then-n-ne-SUCCESS : goal.returns-then-n-ne-SUCCESS
 unfolding format_call
@@ -15,10 +10,10 @@ returns-then-n-ne-SUCCESS c = let e = passing_not _ _ _ c.read_device-n.ensures 
 
 pub returns-then-any_open : goal.returns-then-any_open
 unfolding format_call
-returns-then-any_open c = let e = (past-device c).1 ∙ check_yes _ _ _ (sym c.any_open.ensures ∙ c.if-any_open.true) in (told _ e c.answer-then-any_open.ensures, told-disk _ e refl)
+returns-then-any_open c = let e = passing_is _ _ _ c.read_device-n.ensures c.if-n-ne-SUCCESS.false ∙ check_yes _ _ _ (sym c.any_open.ensures ∙ c.if-any_open.true) in (told _ e c.answer-then-any_open.ensures, told-disk _ e refl)
 
 pub returns : goal.returns
 unfolding format_call
 returns c =
-    let e = (past-device c).1 ∙ check_no _ _ _ (sym c.any_open.ensures ∙ c.if-any_open.false) in
+    let e = passing_is _ _ _ c.read_device-n.ensures c.if-n-ne-SUCCESS.false ∙ check_no _ _ _ (sym c.any_open.ensures ∙ c.if-any_open.false) in
     (told _ e c.answer-2.ensures, told-disk _ e c.format.ensures)
