@@ -8,30 +8,40 @@ use native.Mathlib.Omega.{arith}
 use Rattle.gets.proofs.get.get_some.Goals as goal
 
 pub overflow_cast-end : goal.overflow_cast-end
-overflow_cast-end c = let h = (let h = at_hand_lem _ _ _ _ _ (sym c.at_hand.ensures ∙ c.if-at_hand.true) in
-    let t = c.step_in-near.ensures.0 in
-    let small = t.small h.0 in
-    (t.least h.0, t.most, omega arith)) in let regular = c.requires.0.0 in omega arith
+overflow_cast-end c =
+    let near = c.step_in-near.ensures.0 in
+    let here = at_hand_lem _ _ _ _ _ (sym c.at_hand.ensures ∙ c.if-at_hand.true) in
+    let small = near.small here.0 in
+    let least = near.least here.0 in
+    let most = near.most in
+    let regular = c.requires.0.0 in omega arith
 
 pub overflow_add-end : goal.overflow_add-end
-overflow_add-end c = let h = (let h = at_hand_lem _ _ _ _ _ (sym c.at_hand.ensures ∙ c.if-at_hand.true) in
-    let t = c.step_in-near.ensures.0 in
-    let small = t.small h.0 in
-    (t.least h.0, t.most, omega arith)) in let regular = c.requires.0.0 in omega arith
+overflow_add-end c =
+    let near = c.step_in-near.ensures.0 in
+    let here = at_hand_lem _ _ _ _ _ (sym c.at_hand.ensures ∙ c.if-at_hand.true) in
+    let small = near.small here.0 in
+    let least = near.least here.0 in
+    let most = near.most in
+    let regular = c.requires.0.0 in omega arith
 
 pub or_end_reached-status-requires : goal.or_end_reached-status-requires
-or_end_reached-status-requires c = let h = (let h = at_hand_lem _ _ _ _ _ (sym c.at_hand.ensures ∙ c.if-at_hand.true) in
-    let t = c.step_in-near.ensures.0 in
-    let small = t.small h.0 in
-    (t.least h.0, t.most, omega arith)) in (omega arith, h.1, λ _. h.0)
+or_end_reached-status-requires c =
+    let near = c.step_in-near.ensures.0 in
+    let here = at_hand_lem _ _ _ _ _ (sym c.at_hand.ensures ∙ c.if-at_hand.true) in
+    let small = near.small here.0 in
+    let least = near.least here.0 in
+    let most = near.most in
+    (omega arith, most, λ _. least)
 
 pub get_run-requires : goal.get_run-requires
 get_run-requires c =
-    let h = (let h = at_hand_lem _ _ _ _ _ (sym c.at_hand.ensures ∙ c.if-at_hand.true) in
-    let t = c.step_in-near.ensures.0 in
-    let small = t.small h.0 in
-    (t.least h.0, t.most, omega arith)) in
-    let size = (lawful _ c.requires.0.0).whole _ h.0 in omega arith
+    let near = c.step_in-near.ensures.0 in
+    let here = at_hand_lem _ _ _ _ _ (sym c.at_hand.ensures ∙ c.if-at_hand.true) in
+    let small = near.small here.0 in
+    let least = near.least here.0 in
+    let most = near.most in
+    let size = (lawful _ c.requires.0.0).whole _ least in omega arith
 
 pub returns-then-at_hand : goal.returns-then-at_hand
 returns-then-at_hand c =

@@ -1,3 +1,4 @@
+use mathlib.Core.Bool.{not}
 use mathlib.Core.Path.{◌≡◌, sym, ap, ◌∙◌}
 use lib.Dec.{eqb}
 use borrow.Author.Tests.{eqb-true}
@@ -14,7 +15,7 @@ unfolding sector_call sector
 returns-then-not-named c =
     let q = sym c.served_as-v.ensures.0 ∙ c.in-As.is in
     let e = served_as_lem {A = ImageSectorOutcome} _ _ _ q in
-    let d = check_yes {A = SectorOutcome} _ _ _ c.if-not-named.true in
+    let d = check_yes {A = SectorOutcome} _ _ _ (ap not c.if-not-named.true) in
     (c.reply.ensures ∙ ap (λ o. o.reply) (sym d) ∙ ap (λ o. o.reply) (sym e), image_of_lem _ (lawful _ (served_whole _ _ q).0) _ _ _ (search rules) (ap (λ o. o.disk) (sym d)) ∙ ap (λ o. o.image) (sym e), ap (λ o. o.buffer) (sym d) ∙ ap (λ o. o.buffer) (sym e))
 
 pub serve-requires : goal.serve-requires
