@@ -29,7 +29,7 @@ rows = (refl, refl, refl, refl, refl, refl, refl, refl, refl, refl, refl, refl)
 
 -- a number that has no row of its own
 abbrev pub NoRow : ℕ → Type 0
-NoRow n = (((((((((((Unit {0} × (n ≢ 3)) × (n ≢ 5)) × (n ≢ 7)) × (n ≢ 9)) × (n ≢ 11)) × (n ≢ 12)) × (n ≢ 13)) × (n ≢ 32)) × (n ≢ 33)) × (n ≢ 35)) × (n ≢ 36)) × (n ≢ 254)
+NoRow n = (n ≢ 3) × (n ≢ 5) × (n ≢ 7) × (n ≢ 9) × (n ≢ 11) × (n ≢ 12) × (n ≢ 13) × (n ≢ 32) × (n ≢ 33) × (n ≢ 35) × (n ≢ 36) × (n ≢ 254)
 
 -- commands 0 to 2
 pub is_low : (n : ℕ) → n < 3 → Unlisted bad_command ≡ command_of n
@@ -56,17 +56,17 @@ pub is_other : (n : ℕ) → NoRow n → 3 ≤ n → Unlisted not_served ≡ com
 unfolding command_of check
 is_other n r h =
     rw (
-      ne_eqb n 3 r.0.0.0.0.0.0.0.0.0.0.0.1,
-      ne_eqb n 5 r.0.0.0.0.0.0.0.0.0.0.1,
-      ne_eqb n 7 r.0.0.0.0.0.0.0.0.0.1,
-      ne_eqb n 9 r.0.0.0.0.0.0.0.0.1,
-      ne_eqb n 11 r.0.0.0.0.0.0.0.1,
-      ne_eqb n 12 r.0.0.0.0.0.0.1,
-      ne_eqb n 13 r.0.0.0.0.0.1,
-      ne_eqb n 32 r.0.0.0.0.1,
-      ne_eqb n 33 r.0.0.0.1,
-      ne_eqb n 35 r.0.0.1,
-      ne_eqb n 36 r.0.1,
-      ne_eqb n 254 r.1,
+      ne_eqb n 3 r.0,
+      ne_eqb n 5 r.1,
+      ne_eqb n 7 r.2,
+      ne_eqb n 9 r.3,
+      ne_eqb n 11 r.4,
+      ne_eqb n 12 r.5,
+      ne_eqb n 13 r.6,
+      ne_eqb n 32 r.7,
+      ne_eqb n 33 r.8,
+      ne_eqb n 35 r.9,
+      ne_eqb n 36 r.10,
+      ne_eqb n 254 r.11,
       le-ltb n 3 h,
     )

@@ -12,4 +12,4 @@ unfolding command
 returns-in-Files c = let left = c.on_closed.ensures in λ b. rw c.in-Files.is (left.0, left.1, refl)
 
 pub returns-in_default : goal.returns-in_default
-returns-in_default c = let pre = c.requires in λ b. rw (refused-other _ _ _ _ _ _ b c.in_default.in_default-own.keys3 pre.2 pre.3) (rw (← c.command_status.ensures) c.answer.ensures, refl, refl)
+returns-in_default c = let pre = c.requires in λ b. rw (refused-other _ _ _ _ _ _ b c.in_default.not-Close c.in_default.not-Files pre.2 pre.3) (rw (← c.command_status.ensures) c.answer.ensures, refl, refl)

@@ -42,4 +42,4 @@ pub returns-in-0-to-2 : goal.returns-in-0-to-2
 returns-in-0-to-2 c = tells_command (is_low _ (omega arith))
 
 pub returns-in_default : goal.returns-in_default
-returns-in_default c = tells_command (is_other _ c.in_default-1.rest (omega arith))
+returns-in_default c = tells_command (is_other _ (λ e. omega arith, λ e. omega arith, λ e. omega arith, λ e. omega arith, λ e. omega arith, λ e. omega arith, λ e. omega arith, λ e. omega arith, λ e. omega arith, λ e. omega arith, λ e. omega arith, λ e. omega arith) (omega arith))
