@@ -20,7 +20,28 @@ mod order;
 mod script;
 mod steps;
 
+ghost use Rattle.std.specs.Prelude.{IfOk, ◌≤◌, ◌<◌, length, take};
+ghost use Rattle.std.specs.Io.KnownBytes.{Consumes, IsAtEnd};
+
 use script::run;
+use std::io::{self, Read};
+
+// Reads until the buffer is full or the input ends: how many bytes, which stand at its beginning.
+fn read_full<R: Read>(input: &mut R, buffer: &mut [u8]) -> io::Result<usize>
+    ensures bound { IfOk result (λ n. n ≤ length buffer.new) }
+    ensures bytes { IfOk result (λ n. Consumes (R.remaining input.old) (R.remaining input.new) (take n buffer.new)) }
+    ensures end { IfOk result (λ n. n < length buffer.new → IsAtEnd (R.remaining input.new)) }
+{
+    let mut done = 0;
+    while done < buffer.len() {
+        let n = input.read(&mut buffer[done..])?;
+        if n == 0 {
+            return Ok(done);
+        }
+        done += n;
+    }
+    Ok(done)
+}
 
 // The ending byte of names is written as a dollar sign.
 fn with_ending(b: u8) -> u8 {
@@ -39,21 +60,22 @@ fn with_endings(script: &mut [u8]) {
 }
 
 // The first part of the script, on a raw image: where the other begins.
-fn run_raw(script: &[u8]) -> usize {
+fn run_raw(rt: &impl Print, script: &[u8]) -> io::Result<usize> {
     let mut image = [77u8; 92160];
-    run(&mut image, script, 0)
+    run(rt, &mut image, script, 0)
 }
 
 // The other part, on a disk of double density.
-fn run_double(script: &[u8], from: usize) {
+fn run_double(rt: &impl Print, script: &[u8], from: usize) -> io::Result<()> {
     let mut image = [77u8; 183952];
-    run(&mut image, script, from);
+    run(rt, &mut image, script, from)?;
+    Ok(())
 }
 
-fn main() {
+fn main(rt: HostRuntime) -> io::Result<()> {
     let mut script = [0u8; 4096];
-    io::read_full(0, &mut script);
+    read_full(&mut rt.stdin(), &mut script)?;
     with_endings(&mut script);
-    let next = run_raw(&script);
-    run_double(&script, next);
+    let next = run_raw(&rt, &script)?;
+    run_double(&rt, &script, next)
 }

@@ -3,6 +3,7 @@ ghost use Rattle.std.specs.Prelude.{◌≡◌, ◌≤◌, length};
 
 use capi::dos_cio;
 use layout::status::SUCCESS;
+use std::io;
 
 // The most bytes that are put at once: all that a disk of double density has room for.
 const MOST: usize = 178871;
@@ -11,25 +12,25 @@ const MOST: usize = 178871;
 pub const NOTCH_OPEN: u8 = 0;
 
 // A number.
-pub fn number(n: u64) {
-    io::print_decimal(1, n);
+pub fn number(rt: &impl Print, n: u64) -> io::Result<()> {
+    print!(rt; "{n}")
 }
 
 // The status of a result.
-pub fn status(res: u64) {
-    number(res % 256);
+pub fn status(rt: &impl Print, res: u64) -> io::Result<()> {
+    number(rt, res % 256)
 }
 
 // Status and count of a result.
-pub fn answer(res: u64) {
-    status(res);
-    io::write_all(1, b" with ");
-    number(res / 256);
+pub fn answer(rt: &impl Print, res: u64) -> io::Result<()> {
+    status(rt, res)?;
+    print!(rt; " with ")?;
+    number(rt, res / 256)
 }
 
 // A byte's two digits in base 16.
-pub fn hex(b: u8) {
-    io::print_hex(1, b as u64, 2);
+pub fn hex(rt: &impl Print, b: u8) -> io::Result<()> {
+    print!(rt; "{b:02x}")
 }
 
 // A CIO call on channel 0 that moves no bytes.
@@ -47,12 +48,15 @@ pub fn call(
 }
 
 // A get of n bytes on channel 0: status and count, and the buffer's first three bytes.
-pub fn get(image: &mut [u8], words: &mut [u16; 40], n: usize)
+pub fn get(rt: &impl Print, image: &mut [u8], words: &mut [u16; 40], n: usize) -> io::Result<()>
     requires { n ≤ 256 }
 {
     let mut bytes = [b'-'; 256];
-    answer(dos_cio(image, words, NOTCH_OPEN, 0, 7, 0, b"", &mut bytes[0..n]));
-    io::write_all(1, &[b' ', bytes[0], bytes[1], bytes[2]]);
+    answer(
+        rt,
+        dos_cio(image, words, NOTCH_OPEN, 0, 7, 0, b"", &mut bytes[0..n]),
+    )?;
+    rt.write_all(&[b' ', bytes[0], bytes[1], bytes[2]])
 }
 
 // So many letters. From a function of its own an array is known by its length alone; what is proved of one that is written out takes time for each byte.
