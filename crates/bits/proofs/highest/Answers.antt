@@ -1,6 +1,5 @@
 use native.Mathlib.Omega.{arith}
 use Rattle.bits.proofs.Bytes.{leading}
-use Rattle.layout.specs.File.{fits}
 use borrow.Author.Rules.{rules}
 use Rattle.bits.proofs.highest.Goals as goal
 

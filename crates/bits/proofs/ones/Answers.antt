@@ -1,6 +1,5 @@
 use native.Mathlib.Omega.{arith}
 use Rattle.bits.proofs.Bytes.{ones_eight}
-use Rattle.layout.specs.File.{fits}
 use lib.Count.{ones-le}
 use Rattle.bits.proofs.ones.Goals as goal
 

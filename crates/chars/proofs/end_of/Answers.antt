@@ -1,7 +1,6 @@
 use mathlib.Core.Path.{◌≡◌, sym, ◌∙◌}
 use Prim.Native.Nat.{◌+◌, ◌-◌}
 use native.Mathlib.Omega.{arith}
-use Rattle.layout.specs.Names.{not_plain}
 use Rattle.layout.proofs.Search.{first-end, first_stop, first_next}
 use Rattle.chars.proofs.end_of.Goals as goal
 

@@ -1,4 +1,3 @@
-use Rattle.layout.specs.Names.{comma, ending}
 use Rattle.chars.proofs.ends_by.Goals as goal
 
 pub returns-then-by_comma : goal.returns-then-by_comma
