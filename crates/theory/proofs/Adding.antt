@@ -13,7 +13,6 @@ use Rattle.layout.specs.declared.State.TheVariants.{Writing}
 use Rattle.layout.specs.Basics.{if, member}
 use Rattle.layout.specs.Image.{Disk, Geometry}
 use Rattle.layout.specs.Volume.{lowest}
-use Rattle.layout.specs.Directory.{count}
 use Rattle.layout.specs.File.{in_use, give}
 use Rattle.layout.proofs.Members.{member-left, member_right, member_not}
 use Rattle.layout.proofs.Give.{give-other}

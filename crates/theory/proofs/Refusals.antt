@@ -1,7 +1,6 @@
 -- Demand 1: a refused call reports no bytes and changes nothing, but for the partial transfers.
 use mathlib.Core.Bool.{Bool, true, true≢false}
 use mathlib.Core.List.{List}
-use mathlib.Core.Logic.{◌≢◌}
 use mathlib.Core.Path.{◌≡◌, refl, sym, ◌∙◌}
 use Prim.Native.Nat.{ℕ}
 use Rattle.layout.specs.declared.State.{State}
@@ -18,7 +17,7 @@ use Rattle.layout.specs.Basics.{member}
 use Rattle.layout.specs.Image.{Disk, Geometry, geometry_of, view}
 use Rattle.layout.specs.Header.{served_as}
 use Rattle.layout.specs.Channels.{fresh_table}
-use Rattle.layout.specs.Status.{success, Succeeds, Fails}
+use Rattle.layout.specs.Status.{Succeeds, Fails}
 use Rattle.layout.proofs.Check.{by_check, by_served}
 use Rattle.rules.specs.Get.{GetOutcome, fill, gets, or_end_reached}
 use Rattle.rules.specs.Put.{PutOutcome, sent, put_from, puts}

@@ -4,10 +4,9 @@ use Rattle.capi.specs.Leaves.{CioLeaves, cio_leaves}
 use Rattle.calls.proofs.Cases.{stays}
 use Rattle.rules.specs.declared.Command.TheVariants.{Moves}
 use Rattle.words.proofs.Tables.{table_length}
-use Rattle.words.specs.Words.{is_table}
 use Rattle.layout.proofs.Check.{check_yes}
 use mathlib.Core.Path.{sym, ap, ◌∙◌}
-use mathlib.Core.Bool.{true, not}
+use mathlib.Core.Bool.{not}
 use Rattle.capi.proofs.dos_cio.Goals as goal
 
 pub returns-then-not-is_table : goal.returns-then-not-is_table

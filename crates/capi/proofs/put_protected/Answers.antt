@@ -1,6 +1,4 @@
-use mathlib.Core.Bool.{true}
 use mathlib.Core.Path.{sym, ap, ◌∙◌}
-use Rattle.words.specs.Words.{is_channel}
 use Rattle.words.proofs.Channels.{record_length}
 use Rattle.capi.proofs.Protected.{stays, not_record, not_served_lem, served-closed}
 use Rattle.capi.proofs.put_protected.Goals as goal

@@ -1,10 +1,9 @@
 use mathlib.Core.Path.{sym, ap, ◌∙◌}
-use mathlib.Core.Bool.{true, not}
+use mathlib.Core.Bool.{not}
 use Rattle.layout.proofs.Check.{check_yes}
 use Rattle.layout.specs.Channels.{channel}
 use Rattle.capi.proofs.Laws.{put_few, put_leaves_lem}
 use Rattle.capi.specs.Leaves.{PutLeaves, write_leaves}
-use Rattle.words.specs.Words.{is_channel}
 use Rattle.words.proofs.Channels.{record_length}
 use Rattle.capi.proofs.put_words.Goals as goal
 

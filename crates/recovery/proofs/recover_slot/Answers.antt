@@ -1,9 +1,7 @@
 use Rattle.rules.specs.declared.Reply.{Reply}
 use Rattle.recovery.proofs.Slots.{recoverable-slot}
-use Rattle.rules.specs.Recovery.{Recovered, recoverable, recover}
+use Rattle.rules.specs.Recovery.{Recovered, recover}
 use Rattle.layout.proofs.Check.{check_yes, check_no}
-use Rattle.layout.specs.Names.{legal}
-use Rattle.layout.specs.File.{clean_free}
 use borrow.Author.Tests.{not-false}
 use native.Mathlib.Omega.{arith}
 use Prim.Native.Nat.{ℕ}

@@ -1,10 +1,9 @@
 use mathlib.Core.Bool.{Bool, true, false, not, ◌||◌}
-use mathlib.Core.Logic.{⊎_elim}
 use mathlib.Core.Path.{◌≡◌, refl, sym, ◌∙◌}
 use Prim.Native.Nat.{ℕ}
 use native.Mathlib.Omega.{arith}
 use lib.Dec.{eqb}
-use borrow.Author.Tests.{ne_eqb, not-false}
+use borrow.Author.Tests.{ne_eqb}
 use Rattle.layout.specs.declared.Table.{Table}
 use Rattle.layout.specs.Image.{Disk}
 use Rattle.layout.specs.Directory.{flag, deleted}
@@ -39,7 +38,7 @@ pub loop-s-preserved : goal.loop-s-preserved
 loop-s-preserved c = (
   omega arith,
   c.loop-s.invariant.1 ∙ first_next _ 64 _ (omega arith) (elim c.if-unused.branch [
-    then-unused+else-not-held_by_channel w ↦ vacant_is _ _ _ true (sym c.unused.ensures ∙ w.if-unused.true) (sym w.held_by_channel.ensures ∙ w.if-not-held_by_channel.false)
+    | then-unused+else-not-held_by_channel w ↦ vacant_is _ _ _ true (sym c.unused.ensures ∙ w.if-unused.true) (sym w.held_by_channel.ensures ∙ w.if-not-held_by_channel.false)
     | else-unused w ↦ used_is _ _ _ (sym c.unused.ensures ∙ w.if-unused.false)
   ]),
 )

@@ -1,8 +1,7 @@
 use Rattle.layout.proofs.Search.{any_none, any_more, any_at}
-use Rattle.layout.specs.Channels.{holds_at, held_by_channel}
+use Rattle.layout.specs.Channels.{held_by_channel}
 use native.Mathlib.Omega.{arith}
 use mathlib.Core.Path.{◌≡◌, sym, ◌∙◌}
-use mathlib.Core.Bool.{false}
 use Rattle.channels.proofs.table.held_by_channel.Goals as goal
 
 pub loop-i-init : goal.loop-i-init

@@ -1,6 +1,5 @@
 use mathlib.Core.Path.{sym, ap, ◌∙◌, subst}
 use Rattle.layout.specs.Directory.{locked}
-use Rattle.layout.specs.Names.{read_name}
 use Rattle.layout.proofs.Check.{check_yes, check_no}
 use Rattle.rules.specs.Commands.{sought, status_call}
 use Rattle.rules.proofs.Aimed.{aimed-slot}

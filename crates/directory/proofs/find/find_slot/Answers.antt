@@ -1,4 +1,3 @@
-use mathlib.Core.Logic.{⊎_elim}
 use mathlib.Core.Bool.{true, false}
 use mathlib.Core.Path.{◌≡◌, refl, sym, ap, ◌∙◌}
 use Prim.Native.Nat.{◌+◌, ◌-◌}
@@ -33,7 +32,7 @@ loop-s-preserved c =
       omega arith,
       c.slot_after-at.ensures,
       elim c.if-standing_flag.branch [
-        then-standing_flag+else-same_name-s w ↦ let u = t ∙ w.if-standing_flag.true in next (standing_nonzero _ u) (beside_stands _ _ _ _ false u (rw (← w.same_name.ensures) w.if-same_name-s.false))
+        | then-standing_flag+else-same_name-s w ↦ let u = t ∙ w.if-standing_flag.true in next (standing_nonzero _ u) (beside_stands _ _ _ _ false u (rw (← w.same_name.ensures) w.if-same_name-s.false))
         | else-standing_flag+else-f-eq0 w ↦ next (λ z. w.if-f-eq0.false (f ∙ z)) (beside_fallen _ _ _ _ (t ∙ w.if-standing_flag.false))
       ],
     )

@@ -1,7 +1,6 @@
 use mathlib.Core.Path.{refl, sym, ◌∙◌}
 use native.Mathlib.Omega.{arith}
 use Rattle.layout.specs.Directory.{write_name}
-use Rattle.layout.specs.Names.{name_byte}
 use Rattle.directory.proofs.Bytes.{name-next, name-end}
 use Rattle.directory.proofs.find.write_name.Goals as goal
 

@@ -1,7 +1,6 @@
 use mathlib.Core.Path.{◌≡◌, sym, ◌∙◌}
-use mathlib.Core.Bool.{true}
 use native.Mathlib.Omega.{arith}
-use Rattle.layout.specs.Directory.{nonzero, reached}
+use Rattle.layout.specs.Directory.{reached}
 use Rattle.layout.proofs.Search.{all_none, all_more, all_fails}
 use Rattle.directory.proofs.flags.reached.Goals as goal
 

@@ -1,5 +1,4 @@
 use mathlib.Core.Path.{◌≡◌, sym, ◌∙◌}
-use mathlib.Core.Bool.{true}
 use native.Mathlib.Omega.{arith}
 use Rattle.layout.proofs.Search.{all_none, all_more, all_fails}
 use Rattle.directory.specs.Follow.{follows_from}

@@ -1,6 +1,5 @@
 use native.Mathlib.Omega.{arith}
 use mathlib.Core.Path.{sym, ◌∙◌}
-use borrow.Author.Tests.{not-false}
 use Rattle.layout.specs.File.{belongs}
 use Rattle.layout.proofs.Chain.{fits_data}
 use Rattle.layout.proofs.Data.{data_facts}

@@ -1,11 +1,9 @@
 use native.Mathlib.Omega.{arith}
-use mathlib.Core.Bool.{true}
-use mathlib.Core.Path.{◌≡◌, sym, ap, ◌∙◌}
-use Prim.Native.Nat.{◌+◌, ◌-◌}
+use mathlib.Core.Path.{sym, ap, ◌∙◌}
+use Prim.Native.Nat.{◌+◌}
 use native.Mathlib.Nat.{sub-zero, sub-add-eq}
 use Rattle.files.proofs.Walks.{belongs_data, clean_end, clean-next, clean_fails}
-use Rattle.layout.specs.File.{belongs, clean_from}
-use Rattle.layout.specs.Image.{geometry_of, view}
+use Rattle.layout.specs.File.{clean_from}
 use Rattle.layout.proofs.Data.{data_facts}
 use Rattle.files.proofs.chain.clean_from.Goals as goal
 

@@ -1,6 +1,5 @@
 use native.Mathlib.Omega.{arith}
 use mathlib.Core.Path.{sym, ◌∙◌}
-use borrow.Author.Tests.{not-false}
 use Rattle.layout.specs.File.{fits}
 use Rattle.layout.proofs.Data.{data_facts}
 use Rattle.files.proofs.chain.fits.Goals as goal

@@ -26,23 +26,21 @@ returns-then-ends c = (
 )
 
 pub returns-then-l-eq0 : goal.returns-then-l-eq0
-returns-then-l-eq0 c =
-    (
-      tells_seek (sym (c.loop-m.invariant.1
-          ∙ seek_out _ _ _ _ _ _ (sym c.has_byte.ensures ∙ c.if-has_byte.false) (sym c.ends.ensures ∙ c.if-ends.false) c.if-l-eq0.true)),
-      tt,
-    )
+returns-then-l-eq0 c = (
+  tells_seek (sym (c.loop-m.invariant.1
+      ∙ seek_out _ _ _ _ _ _ (sym c.has_byte.ensures ∙ c.if-has_byte.false) (sym c.ends.ensures ∙ c.if-ends.false) c.if-l-eq0.true)),
+  tt,
+)
 
 pub next_to_enter-n-requires : goal.next_to_enter-n-requires
 next_to_enter-n-requires c = let e = c.loop-m.invariant.0 in (omega arith, omega arith, e.most, e.least)
 
 pub returns-then-not-fits : goal.returns-then-not-fits
-returns-then-not-fits c =
-    (
-      tells_seek (sym (c.loop-m.invariant.1
-          ∙ seek_not _ _ _ _ _ _ c.next_to_enter-n.ensures _ (sym c.has_byte.ensures ∙ c.if-has_byte.false) (sym c.ends.ensures ∙ c.if-ends.false) (sym c.fits.ensures ∙ c.if-not-fits.true))),
-      tt,
-    )
+returns-then-not-fits c = (
+  tells_seek (sym (c.loop-m.invariant.1
+      ∙ seek_not _ _ _ _ _ _ c.next_to_enter-n.ensures _ (sym c.has_byte.ensures ∙ c.if-has_byte.false) (sym c.ends.ensures ∙ c.if-ends.false) (sym c.fits.ensures ∙ c.if-not-fits.true))),
+  tt,
+)
 
 pub loop-m-preserved : goal.loop-m-preserved
 loop-m-preserved c =

@@ -5,7 +5,6 @@ use Rattle.layout.proofs.Data.{data_facts}
 use lib.ListN.{length}
 use native.Mathlib.Omega.{arith}
 use Prim.Native.Nat.{◌+◌, ◌-◌}
-use mathlib.Core.Bool.{true}
 use mathlib.Core.Path.{◌≡◌, refl, sym, ◌∙◌}
 use Rattle.gets.proofs.whole.get_counted.Goals as goal
 
@@ -35,12 +34,17 @@ overflow_add-k c = let f = data_facts _ (let sector = c.args.w.sector in
     rw e at (c.requires.4.each (k - sector) (omega arith))) in omega arith
 
 pub leads_on-requires : goal.leads_on-requires
-leads_on-requires c = let p = c.requires in (p.0, p.1, (let sector = c.args.w.sector in
-    let k = c.loop-k.k in
-    let t = (let l = c.loop-k in room-left _ l.k _ (length l.buffer - l.i) c.loop-k-test.true) in
-    let least = c.loop-k.invariant.3.least in
-    let e : sector + 1 + (k - sector) ≡ k + 1 = omega arith in
-    rw e at (c.requires.4.each (k - sector) (omega arith))), c.loop-k.invariant.1)
+leads_on-requires c = let p = c.requires in (
+  p.0,
+  p.1,
+  (let sector = c.args.w.sector in
+      let k = c.loop-k.k in
+      let t = (let l = c.loop-k in room-left _ l.k _ (length l.buffer - l.i) c.loop-k-test.true) in
+      let least = c.loop-k.invariant.3.least in
+      let e : sector + 1 + (k - sector) ≡ k + 1 = omega arith in
+      rw e at (c.requires.4.each (k - sector) (omega arith))),
+  c.loop-k.invariant.1,
+)
 
 pub counted_to-requires : goal.counted_to-requires
 counted_to-requires c =

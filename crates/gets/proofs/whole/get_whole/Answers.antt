@@ -5,7 +5,6 @@ use Rattle.layout.proofs.Data.{data_facts}
 use lib.ListN.{length}
 use native.Mathlib.Omega.{arith}
 use Prim.Native.Nat.{◌+◌, ◌-◌, ◌≤◌}
-use mathlib.Core.Bool.{true}
 use mathlib.Core.Path.{refl, sym, ◌∙◌}
 use Rattle.gets.proofs.whole.get_whole.Goals as goal
 

@@ -1,6 +1,5 @@
 use mathlib.Core.Path.{refl, sym, ap, ◌∙◌, subst}
 use Rattle.layout.specs.Directory.{output_flag}
-use Rattle.layout.specs.Names.{read_name}
 use Rattle.layout.proofs.Check.{check_yes, check_no}
 use Rattle.rules.specs.Commands.{sought, open_read}
 use Rattle.rules.proofs.Aimed.{aimed-slot}

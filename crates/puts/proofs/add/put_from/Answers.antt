@@ -5,7 +5,6 @@ use lib.ListN.{length-take, length-drop}
 use native.Mathlib.Omega.{arith}
 use native.Mathlib.Nat.{add-sub_cancel_left}
 use mathlib.Core.Path.{sym, ◌∙◌}
-use mathlib.Core.Bool.{true}
 use Rattle.puts.proofs.add.put_from.Goals as goal
 
 pub loop-w-init : goal.loop-w-init

@@ -6,7 +6,7 @@ use mathlib.Core.Bool.{false, not, ◌&&◌}
 use borrow.Author.Tests.{not-false, eq-eqb, ne_eqb}
 use Rattle.sectors.proofs.Whole.{request_sector}
 use Rattle.layout.proofs.Check.{check_yes, check_no}
-use Rattle.rules.specs.Sectors.{SectorOutcome, is_request, sector}
+use Rattle.rules.specs.Sectors.{SectorOutcome, sector}
 use Rattle.sectors.proofs.command.serve.Goals as goal
 
 -- success reports the sector's size
