@@ -24,12 +24,6 @@
  * legal and has a defined answer. A refused call changes nothing, except where
  * its comment says so.
  *
- * Threads. There is no global state: any number of threads may call the library at
- * once on different images. On one image and its table one call at a time may
- * change them, with no other call meanwhile. Calls that only read, dos_show and
- * dos_thin_get with a channel and a buffer of its own for each, may run at once on
- * the same image.
- *
  * The calls that can change the image are told its write-protect notch too, see
  * "The notch".
  */

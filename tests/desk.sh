@@ -3,7 +3,6 @@
 # What the program refuses with the write-protect notch closed, and that it leaves the image's file alone then.
 # Names padded with blanks, and names that a blank would cut short.
 # Text with newlines here and ends of lines on the disk, and in the shell lines and a file's end.
-# What is seen of a damaged disk, and what a rescue of it leaves; what tools/install.sh installs.
 # And what the script shows while the library is being proved, by tools/progress.sh: on lines as rt prints them, then on rt's own.
 set -u
 root=$(cd "$(dirname "$0")/.." && pwd)
@@ -38,11 +37,6 @@ expect 1 "desk: no command frob: see desk --help" "$work/desk" help frob
 expect 1 "desk: no cargo on the PATH" env PATH="$work/tools" "$root/desk" demo
 expect 1 "desk: no $work/libcapi.a, where HILUGSABAN_LIB says it is" env HILUGSABAN_LIB="$work" "$root/desk" demo
 expect 1 "desk: the program could not be built" env RUSTC=/nonexistent "$root/desk" demo
-
-# A relative path is one from here.
-expect 1 "desk: no $work/lib/libcapi.a, where HILUGSABAN_LIB says it is" env HILUGSABAN_LIB=lib "$root/desk" demo
-ln -s "$root/target/staticlib" "$work/lib"
-expect 0 "Its splits are what was written, byte for byte." env HILUGSABAN_LIB=lib "$root/desk" demo
 
 # All that can be seen of the image's file: inode, permissions, times, bytes; and the names of the files beside it.
 seen() {
@@ -267,34 +261,6 @@ yes; offset 640, length 15
 changes not saved
 END
 "$work/desk" shell MEET.XFD <"$work/script" | diff "$work/wanted" - || { echo "the shell says otherwise (>)"; failed=1; }
-
-# A disk on which the map marks a file's second sector free, and a slot counts more sectors than its chain has.
-mkdir "$work/damage"
-cd "$work/damage" || exit 1
-head -c 300 /dev/zero | tr '\0' 'x' >long.dat
-"$work/desk" new MEET.XFD || failed=1
-"$work/desk" put --each MEET.XFD long.dat "$root/README.md" || failed=1
-"$work/desk" delete MEET.XFD readme.md || failed=1
-cat >"$work/script" <<'END'
-poke 360 10 $07
-poke 360 3 $C1
-poke 361 1 5
-save
-END
-"$work/desk" shell MEET.XFD <"$work/script" >/dev/null || failed=1
-expect 0 "   0  LONG.DAT            5     300  NOT CLEAN: sector 5 is marked free" "$work/desk" list MEET.XFD
-expect 0 "705 free sectors; the volume table is good; FILES USE WHAT IS MARKED FREE: sector 5" "$work/desk" list MEET.XFD
-expect 0 "sector 5: LONG.DAT (slot 0), sector 2 of 5" "$work/desk" map MEET.XFD 5
-expect 0 "</svg>" "$work/desk" map --svg - MEET.XFD
-expect 0 "desk: warning: MEET.XFD: LONG.DAT (slot 0): sector 5 is marked free, and what is put may overwrite it" "$work/desk" lock MEET.XFD 0
-expect 2 "desk: LONG.DAT: 164 the file's sectors, or its channel, do not fit together, after 125 bytes, behind sector 4" sh -c '"$1" put MEET.XFD long.dat NEW.DAT 2>/dev/null; "$1" get --partial MEET.XFD long.dat -' sh "$work/desk"
-
-# What is installed is the program, its man page, and what two shells complete.
-expect 0 "$work/prefix/bin/desk" "$root/tools/install.sh" "$work/prefix"
-"$work/prefix/bin/desk" --version | grep -q '^desk [0-9]' || { echo "the installed program does not run"; failed=1; }
-grep -q '^\.SH EXIT STATUS$' "$work/prefix/share/man/man1/desk.1" || { echo "the man page is not whole"; failed=1; }
-bash -n "$work/prefix/share/bash-completion/completions/desk" || failed=1
-grep -q '^#compdef desk$' "$work/prefix/share/zsh/site-functions/_desk" || { echo "no completion for zsh"; failed=1; }
 
 # Shows a command's run, the lines in $work/raw; expects an exit status, and without the times the lines of $work/wanted.
 shows() {

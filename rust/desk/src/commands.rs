@@ -1,28 +1,39 @@
-//! The commands that work on one image file, but for those that copy files in and out.
+//! The commands that work on one image file.
 
 use crate::{
     arguments::Arguments,
+    contents::read_file,
+    directory,
     dump::dump,
-    failure::{note, numbered, numbered_recovery, About, Failure},
-    faults, header,
-    help::{ATR, COLOR, DOUBLE, JSON, NAMES, PROTECT, SVG, WAIT},
+    failure::{numbered, numbered_name, numbered_recovery, About, Failure},
+    header,
     image_file::{self, ImageFile},
-    listing, map, picture, svg, syntax,
-    target::{name, text, Target},
+    syntax,
+    text::{for_disk, for_host},
     whole_file,
 };
-use hilugsaban::{padded_name, Channel, Disk, Kind, Notch, Status};
+use hilugsaban::{padded_name, Direction, Disk, Kind, Notch, Status};
 use std::{
-    env,
-    ffi::{OsStr, OsString},
-    io::{self, IsTerminal, Write},
+    ffi::OsStr,
+    fs::File,
+    io::{self, Read, Write},
     path::Path,
 };
 
-pub type Outcome = Result<(), Failure>;
+type Outcome = Result<(), Failure>;
 
 /// Where no channel is open, any serves.
-pub const CHANNEL: u8 = 0;
+const CHANNEL: u8 = 0;
+
+/// The options of `new`.
+pub const ATR: &str = "--atr";
+pub const DOUBLE: &str = "--double";
+
+/// The option of `get` and `put`.
+pub const TEXT: &str = "--text";
+
+/// The option of every command that takes an image which is there already.
+pub const PROTECT: &str = "--protect";
 
 /// The disk in these bytes of a file, if its header is right.
 fn disk(bytes: Vec<u8>, notch: Notch, image: &OsStr) -> Result<Disk<Vec<u8>>, Failure> {
@@ -32,36 +43,22 @@ fn disk(bytes: Vec<u8>, notch: Notch, image: &OsStr) -> Result<Disk<Vec<u8>>, Fa
 }
 
 /// Reads an image to look at it. Nothing is to change it, so its notch is closed, with [`PROTECT`] and without.
-pub fn load(image: &OsStr) -> Result<Disk<Vec<u8>>, Failure> {
+fn load(image: &OsStr) -> Result<Disk<Vec<u8>>, Failure> {
     disk(image_file::read(Path::new(image))?, Notch::Closed, image)
 }
 
 /// Changes the image that a command names first: it is written back if every call succeeded.
-pub fn edit<T>(
+fn edit<T>(
     arguments: &Arguments,
     calls: impl FnOnce(&mut Disk<Vec<u8>>) -> Result<T, Failure>,
 ) -> Result<T, Failure> {
     let image = &arguments.operands[0];
-    let (protect, wait) = (arguments.has(&PROTECT), arguments.has(&WAIT));
-    let (mut file, bytes) = ImageFile::open(Path::new(image), protect, wait)?;
+    let (mut file, bytes) = ImageFile::open(Path::new(image), arguments.has(PROTECT))?;
     let mut disk = disk(bytes, file.notch(), image)?;
     require_unprotected(&mut disk, &file).about(image.display())?;
-    let found = disk.directory().about(image.display())?;
     let answer = calls(&mut disk)?;
-    faults::warn_before_change(image.display(), &found);
     file.write_back(disk.image())?;
-    note_other_names(image, &file);
     Ok(answer)
-}
-
-/// Says where the image went to one of several names of its file (hard links) only.
-pub fn note_other_names(image: &OsStr, file: &ImageFile) {
-    let (image, others) = (image.display(), file.other_names());
-    if others > 0 {
-        note(format_args!(
-            "{image} had other names (hard links), {others} of them; these keep the image as it was"
-        ));
-    }
 }
 
 /// Refuses to change the image of a protected file, before the command reads names, as the library does. It is the library
@@ -78,8 +75,26 @@ fn require_unprotected(disk: &mut Disk<Vec<u8>>, file: &ImageFile) -> Result<(),
     Ok(())
 }
 
+/// An argument that is no path.
+fn text(argument: &OsStr) -> Result<&str, Failure> {
+    argument
+        .to_str()
+        .ok_or(Status::BadName)
+        .about(argument.display())
+}
+
+/// A name on the disk, without the blanks that may pad it. One that a blank would cut short is refused.
+fn name(argument: &OsStr) -> Result<&str, Failure> {
+    let name = text(argument)?.trim_end_matches(' ');
+    if name.contains(' ') {
+        let refusal = numbered_name(Status::BadName, name);
+        return Err(Failure::new(format!("{name}: {refusal}")));
+    }
+    Ok(name)
+}
+
 pub fn new(arguments: &Arguments, _: &mut dyn Write) -> Outcome {
-    let kind = match (arguments.has(&ATR), arguments.has(&DOUBLE)) {
+    let kind = match (arguments.has(ATR), arguments.has(DOUBLE)) {
         (_, true) => Kind::AtrDouble,
         (true, false) => Kind::AtrSingle,
         (false, false) => Kind::Raw,
@@ -113,159 +128,124 @@ fn other_form(disk: &Disk<Vec<u8>>) -> Result<Disk<Vec<u8>>, Failure> {
 }
 
 pub fn list(arguments: &Arguments, out: &mut dyn Write) -> Outcome {
+    directory::list(&load(&arguments.operands[0])?, out)
+}
+
+pub fn get(arguments: &Arguments, out: &mut dyn Write) -> Outcome {
     let image = &arguments.operands[0];
-    let disk = load(image)?;
-    let directory = disk.directory().about(image.display())?;
-    match (arguments.has(&JSON), arguments.has(&NAMES)) {
-        (true, _) => listing::json(disk.kind(), &directory, out),
-        (false, true) => listing::names(&directory, out),
-        (false, false) => listing::table(&directory, out),
+    let mut disk = load(image)?;
+    let name = name(&arguments.operands[1])?;
+    let mut bytes = read_file(&mut disk, name)?;
+    if arguments.has(TEXT) {
+        bytes = for_host(bytes).about(name)?;
+    }
+    match arguments.operands.get(2) {
+        Some(file) if file == "-" => Ok(out.write_all(&bytes)?),
+        Some(file) if whole_file::same(Path::new(image), Path::new(file)) => {
+            let file = file.display();
+            Err(Failure::new(format!("{file}: is the image itself")))
+        }
+        Some(file) => whole_file::write(Path::new(file), &bytes).about(file.display()),
+        None => {
+            let own_name = name.rsplit(':').next().unwrap_or(name);
+            whole_file::create(Path::new(own_name), &bytes).about(own_name)
+        }
     }
 }
 
-pub fn map(arguments: &Arguments, out: &mut dyn Write) -> Outcome {
-    let image = &arguments.operands[0];
-    let directory = load(image)?.directory().about(image.display())?;
-    if let Some(file) = arguments.value(&SVG) {
-        arguments.require_operands(1, 1)?;
-        let picture = svg::svg(&directory, &image.to_string_lossy());
-        return if file == "-" {
-            Ok(out.write_all(picture.as_bytes())?)
-        } else {
-            whole_file::write(Path::new(file), picture.as_bytes()).about(file.display())
-        };
+pub fn put(arguments: &Arguments, _: &mut dyn Write) -> Outcome {
+    let file = &arguments.operands[1];
+    if file == "-" && arguments.operands.len() < 3 {
+        return Err(Failure::new("standard input needs a NAME"));
     }
-    let sectors = &arguments.operands[1..];
-    if sectors.is_empty() {
-        let colour = arguments.has(&COLOR) || wants_colour();
-        return Ok(write!(out, "{}", picture::picture(&directory, colour))?);
+    let own_name = Path::new(file)
+        .file_name()
+        .unwrap_or(file)
+        .to_ascii_uppercase();
+    let mut bytes = if file == "-" {
+        read_input(io::stdin().lock())
+    } else {
+        File::open(file).and_then(read_input)
     }
-    let owner = |sector: &OsString| -> Result<String, Failure> {
-        let (sector, shown) = syntax::judged(text(sector)?, u16::MAX)?;
-        let owner = map::owner(&directory, sector).ok_or(Status::BadRequest);
-        owner.about(format!("sector {shown}"))
-    };
-    let owners: Vec<String> = sectors.iter().map(owner).collect::<Result<_, _>>()?;
-    Ok(writeln!(out, "{}", owners.join("\n"))?)
-}
-
-/// Whether colours can be shown and are wanted.
-pub fn wants_colour() -> bool {
-    io::stdout().is_terminal() && env::var_os("NO_COLOR").is_none_or(|value| value.is_empty())
-}
-
-pub fn delete(arguments: &Arguments, _: &mut dyn Write) -> Outcome {
-    on_files(arguments, |disk, target| on_one(disk, target, Disk::delete))
-}
-
-pub fn lock(arguments: &Arguments, _: &mut dyn Write) -> Outcome {
-    on_files(arguments, |disk, target| on_one(disk, target, Disk::lock))
-}
-
-pub fn unlock(arguments: &Arguments, _: &mut dyn Write) -> Outcome {
-    on_files(arguments, |disk, target| on_one(disk, target, Disk::unlock))
-}
-
-pub fn close(arguments: &Arguments, _: &mut dyn Write) -> Outcome {
-    on_files(arguments, close_file)
-}
-
-/// Changes each file that is named behind the image.
-fn on_files(
-    arguments: &Arguments,
-    change: impl Fn(&mut Disk<Vec<u8>>, &Target) -> Outcome,
-) -> Outcome {
+    .about(file.display())?;
+    if arguments.has(TEXT) {
+        bytes = for_disk(bytes).about(file.display())?;
+    }
     edit(arguments, |disk| {
-        let mut files = arguments.operands[1..].iter();
-        files.try_for_each(|file| change(disk, &Target::read(file)?))
+        let name = name(arguments.operands.get(2).unwrap_or(&own_name))?;
+        disk.open(CHANNEL, Direction::Write, name).about(name)?;
+        disk.put(CHANNEL, &bytes).about(name)?;
+        disk.close(CHANNEL).about(name)
     })
 }
 
-/// Makes a call on one file.
-fn on_one(
-    disk: &mut Disk<Vec<u8>>,
-    target: &Target,
-    call: fn(&mut Disk<Vec<u8>>, &str) -> Result<(), Status>,
-) -> Outcome {
-    target.on(disk, call)?.about(target)
+/// Reads the bytes to put, but of an input that no disk can hold only the first byte too many, which the put refuses.
+fn read_input(input: impl Read) -> io::Result<Vec<u8>> {
+    const LONGEST: usize = Kind::AtrDouble.longest_file();
+    let mut bytes = Vec::new();
+    input.take(LONGEST as u64 + 1).read_to_end(&mut bytes)?;
+    Ok(bytes)
 }
 
-/// Closes a file that was left open for output, by the close of a channel that writes it: that is the call which takes the
-/// mark off and changes nothing else. It does not look at the last sector.
-fn close_file(disk: &mut Disk<Vec<u8>>, target: &Target) -> Outcome {
-    let directory = disk.directory().about("directory")?;
-    let slot = target.entry(&directory)?.slot;
-    let writing = Channel::writing(slot.into(), 0);
-    disk.table_mut().set_channel(CHANNEL, writing);
-    disk.close(CHANNEL).map_err(|status| match status {
-        Status::BadChain => {
-            let number = status.number();
-            Failure::new(format!("{target}: {number} it is not open for output"))
+pub fn delete(arguments: &Arguments, _: &mut dyn Write) -> Outcome {
+    on_names(arguments, Disk::delete)
+}
+
+pub fn lock(arguments: &Arguments, _: &mut dyn Write) -> Outcome {
+    on_names(arguments, Disk::lock)
+}
+
+pub fn unlock(arguments: &Arguments, _: &mut dyn Write) -> Outcome {
+    on_names(arguments, Disk::unlock)
+}
+
+/// Makes the same call for each name behind the image.
+fn on_names(
+    arguments: &Arguments,
+    call: fn(&mut Disk<Vec<u8>>, &str) -> Result<(), Status>,
+) -> Outcome {
+    edit(arguments, |disk| {
+        for argument in &arguments.operands[1..] {
+            let name = name(argument)?;
+            call(disk, name).about(name)?;
         }
-        _ => Failure::new(format!("{target}: {}", numbered(status))),
+        Ok(())
     })
 }
 
 pub fn rename(arguments: &Arguments, _: &mut dyn Write) -> Outcome {
     edit(arguments, |disk| {
-        let old = Target::read(&arguments.operands[1])?;
-        let new = name(&arguments.operands[2])?;
-        let renamed = old.on(disk, |disk, old| disk.rename(old, &new))?;
-        renamed.map_err(|status| not_renamed(&old, &new, status))
-    })
-}
-
-/// Says which of the two names a rename is refused for.
-fn not_renamed(old: &Target, new: &str, status: Status) -> Failure {
-    let is_for_a_name = matches!(
-        status,
-        Status::BadDevice | Status::BadUnit | Status::BadName
-    );
-    let old_is_wrong = matches!(old, Target::Name(old) if padded_name(old).is_err());
-    let refusal = numbered(status);
-    Failure::new(match (is_for_a_name, old_is_wrong) {
-        (true, true) => format!("{old}: {refusal}"),
-        (true, false) if new.contains(':') => {
-            let number = status.number();
-            format!("{new}: {number} the new name is written without a device")
-        }
-        (true, false) => format!("{new}: {refusal}"),
-        (false, _) => {
-            let failure: Result<(), Failure> = Err(status).about(format!("{old} to {new}"));
-            return failure.unwrap_err();
-        }
+        let (old, new) = (name(&arguments.operands[1])?, name(&arguments.operands[2])?);
+        disk.rename(old, new).about(format!("{old} to {new}"))
     })
 }
 
 pub fn recover(arguments: &Arguments, out: &mut dyn Write) -> Outcome {
-    let (shown, sectors) = edit(arguments, |disk| {
-        let (slot, shown) = match Target::read(&arguments.operands[1])? {
-            Target::Slot(slot, shown) => (slot, shown),
-            Target::Name(name) => {
-                let slot = deleted_slot(disk, &name)?;
-                (slot, slot.to_string())
-            }
+    let (slot, sectors) = edit(arguments, |disk| {
+        let which = text(&arguments.operands[1])?;
+        let slot = if which.starts_with(|first: char| first.is_ascii_digit() || first == '$') {
+            syntax::number(which)?
+        } else {
+            deleted_slot(disk, name(&arguments.operands[1])?)?
         };
-        let refused = |status| format!("slot {shown}: {}", numbered_recovery(status));
-        let sectors = disk.recover(slot).map_err(refused)?;
-        Ok((shown, sectors))
+        let refused = |status| format!("slot {slot}: {}", numbered_recovery(status));
+        Ok((slot, disk.recover(slot).map_err(refused)?))
     })?;
-    let done = format!("slot {shown} recovered, sectors taken back: {sectors}");
-    let told = writeln!(out, "{done}").and_then(|()| out.flush());
-    told.map_err(|error| {
-        Failure::in_part(format!("output: {error}; the image was changed: {done}"))
-    })
+    Ok(writeln!(
+        out,
+        "slot {slot} recovered, sectors taken back: {sectors}"
+    )?)
 }
 
 /// The slot of the deleted file with a name: the only one, or of several the only one that can be recovered.
 fn deleted_slot(disk: &mut Disk<Vec<u8>>, name: &str) -> Result<u8, Failure> {
     let padded = padded_name(name).about(name)?;
-    let directory = disk.directory().about("directory")?;
-    let tried: Vec<_> = directory
-        .entries
+    let slots = directory::slots(disk).about("directory")?;
+    let named = slots
         .iter()
-        .filter(|entry| entry.padded_name == padded)
-        .filter_map(|entry| Some((entry.slot, entry.deleted()?.recovery)))
+        .filter(|slot| slot.is_deleted() && slot.name == padded);
+    let tried: Vec<_> = named
+        .map(|slot| (slot.number, disk.clone().recover(slot.number)))
         .collect();
     let mut able = tried.iter().filter(|(_, answer)| answer.is_ok());
     match (&tried[..], able.next(), able.next()) {
@@ -288,9 +268,9 @@ fn deleted_slot(disk: &mut Disk<Vec<u8>>, name: &str) -> Result<u8, Failure> {
 }
 
 pub fn sector(arguments: &Arguments, out: &mut dyn Write) -> Outcome {
-    let (number, shown) = syntax::judged(text(&arguments.operands[1])?, u16::MAX)?;
+    let number: u16 = syntax::number(text(&arguments.operands[1])?)?;
     let bytes = load(&arguments.operands[0])?
         .whole_sector(number)
-        .about(format!("sector {shown}"))?;
+        .about(format!("sector {number}"))?;
     Ok(dump(&bytes, out)?)
 }

@@ -2,11 +2,14 @@
 
 use crate::{
     arguments::Arguments,
+    contents::read_file,
+    directory,
     failure::{numbered, About, Failure},
-    listing,
 };
-use hilugsaban::{Disk, Status};
+use hilugsaban::{Direction, Disk, Status};
 use std::io::Write;
+
+const CHANNEL: u8 = 0;
 
 /// The directory slot of the old ENDS.DAT: the second file made.
 const OLD_SLOT: u8 = 1;
@@ -94,7 +97,11 @@ impl Demo<'_> {
     }
 
     fn write(&mut self, name: &str, bytes: &[u8]) -> Result<(), Failure> {
-        self.disk.write_file(name, bytes).about(name)?;
+        self.disk
+            .open(CHANNEL, Direction::Write, name)
+            .about(name)?;
+        self.disk.put(CHANNEL, bytes).about(name)?;
+        self.disk.close(CHANNEL).about(name)?;
         self.call(
             &format!("write {name}"),
             Status::Success,
@@ -103,7 +110,7 @@ impl Demo<'_> {
     }
 
     fn read(&mut self, name: &str) -> Result<Vec<u8>, Failure> {
-        let bytes = self.disk.read_file(name).about(name)?;
+        let bytes = read_file(&mut self.disk, name)?;
         self.call(
             &format!("read {name}"),
             Status::Success,
@@ -137,7 +144,7 @@ impl Demo<'_> {
     /// The directory, indented.
     fn list(&mut self) -> Result<(), Failure> {
         let mut listing = Vec::new();
-        listing::table(&self.disk.directory().about("directory")?, &mut listing)?;
+        directory::list(&self.disk, &mut listing)?;
         for line in String::from_utf8_lossy(&listing).lines() {
             writeln!(self.out, "        {line}")?;
         }

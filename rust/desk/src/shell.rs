@@ -2,140 +2,104 @@
 
 use crate::{
     arguments::Arguments,
-    commands::{note_other_names, wants_colour},
+    commands::PROTECT,
+    directory,
     dump::dump,
     exact::{print_answer, Exact, Lengths, Understood},
     failure::{numbered, numbered_name, About, Failure},
-    help::{PROTECT, WAIT},
     image_file::{self, ImageFile},
-    line_editing, listing, map, picture,
     syntax::{self, value, Word},
-    system,
-    target::raised,
 };
 use hilugsaban::{
-    command, Answer, Channel, Direction, Directory, Disk, Kind, Notch, Status, CHANNELS, CLOSED,
-    READING, WRITING,
+    command, Answer, Channel, Direction, Disk, Kind, Notch, Status, CHANNELS, CLOSED, READING,
+    WRITING,
 };
 use std::{
-    io::{self, BufRead, IsTerminal, Read, Write},
+    io::{self, BufRead, IsTerminal, Write},
     path::Path,
 };
 
-/// The longest line that is read: longer than any buffer that a line may hold takes, each byte written as \\xNN.
-const LONGEST_LINE: u64 = 8 << 20;
-
 pub const HELP: &str = "\
-One call a line, from the terminal or from standard input; lines that begin with
-# are passed over. Each call prints its status number, its message and its count;
-bytes that it handed out follow, indented. A success is 1, or 3 where a get or a
-get record came to the file's end.
-Without IMAGE a fresh raw image in memory is used. Nothing is written to a file
-but by save. The exit status is 1 where a line could not be understood or carried
-out; a refused call is no failure here. A line has 8 MiB at most.
-On a terminal lines can be edited, and are remembered, where rlwrap is installed
-(in Debian: apt install rlwrap); DESK_RLWRAP=off keeps the shell from using it.
-Before unsaved changes are dropped there, the shell asks.
+One call a line, from the terminal or from standard input; lines that begin with # are passed over. Each
+call prints its status number, its message and its count; bytes that it handed out follow, indented. A success
+is 1, or 3 where a get or a get record came to the file's end.
+Without IMAGE a fresh raw image in memory is used. Nothing is written to a file but by save. The exit status is
+1 where a line could not be understood or carried out; a refused call is no failure here.
 
-Files; small letters stand for capitals, and blanks may pad a NAME, in quotes
-  open N read|write NAME
-                      open a file on channel N, 0 to 7
-  get N COUNT         read from a channel
-  put N TEXT          write to a channel
-  get-record N COUNT  read a line, and drop what COUNT bytes do not hold
-  put-record N TEXT   write a line
+Files; blanks may pad a NAME, in quotes
+  open N read|write NAME       open a file on channel N, 0 to 7
+  get N COUNT                  read from a channel
+  put N TEXT                   write to a channel
+  get-record N COUNT           read a line, and drop what COUNT bytes do not hold
+  put-record N TEXT            write a line
   close N
   status|delete|lock|unlock NAME
   rename OLD NEW
-  format              remove all files; every channel must be closed
-  list                the directory, and the disk's faults
-  map [SECTOR]        what all sectors are used for, or one
+  format                       remove all files; every channel must be closed
+  list                         the directory
 
-Calls with every argument as it is; behind a get, a get record or a sector read
-follows the whole BUFFER
+Calls with every argument as it is; behind a get, a get record or a sector read follows the whole BUFFER
   cio CHANNEL COMMAND DIRECTION \"NAME\" BUFFER
-                      NAME needs its device and ending byte: \"D:A\\x9B\",
-                      \"D:A\\x00\" or \"D:A \"
+                               NAME needs its device and ending byte: \"D:A\\x9B\", \"D:A\\x00\" or \"D:A \"
   sector DEVICE UNIT COMMAND SECTOR BUFFER
-  recover SLOT        take the deleted file in a slot back
-  show SLOT SECTOR    where the data of a sector are, if SLOT could enter it
+  recover SLOT                 take the deleted file in a slot back
+  show SLOT SECTOR             where the data of a sector are, if SLOT could enter it
   thin-get KIND SLOT SECTOR OFFSET LEFT BUFFER
   thin-put KIND SLOT SECTOR OFFSET LEFT BUFFER
-                      read or write by a channel record of its own
-  name \"NAME\" BUFFER  take a name apart; BUFFER has eleven bytes.
-                      The count is the place of NAME's
-                      ending byte, from 0 at the D
-  header              write the header of an ATR file
-  lent BYTES WORDS CALL
-                      one of these calls, lent so many bytes of the image
-                      and words of the table
+                               read or write by a channel record of its own
+  name \"NAME\" BUFFER           take a name apart; BUFFER has eleven bytes. The count is the place of NAME's
+                               ending byte, from 0 at the D
+  header                       write the header of an ATR file
+  lent BYTES WORDS CALL        one of these calls, lent so many bytes of the image and words of the table
 
 The disk and its channels
-  poke SECTOR BYTE VALUE
-                      change one byte of a sector; sector 0 is the header
-                      of an ATR file
+  poke SECTOR BYTE VALUE       change one byte of a sector; sector 0 is the header of an ATR file
   channel N KIND SLOT SECTOR OFFSET LEFT
-                      change a channel; KIND is 0 closed, 1 reading,
-                      2 writing
-  table               the eight channels
-  notch               how the write-protect notch is. It starts closed with
-                      --protect, and where the file may not be written
-  notch open|closed   open or close it: while it is closed, everything that
-                      could change the image is refused with 144, poke too,
-                      and fresh where there is a file
-  fresh [atr|double]  another disk: fresh, with all channels closed and the
-                      notch open; a raw image, or an ATR file of single or
-                      double density. An image in a file stays what it is
-  save [FILE]         write the image back, or to a new FILE; what was
-                      changed before the notch was closed is written too.
-                      A file whose notch starts closed is never written
-                      back, nor is one that another program changed
-                      meanwhile: save FILE keeps both
-  help, quit, exit
+                               change a channel; KIND is 0 closed, 1 reading, 2 writing
+  table                        the eight channels
+  notch                        how the write-protect notch is. It starts closed with --protect, and where the
+                               file may not be written
+  notch open|closed            open or close it: while it is closed, everything that could change the image is
+                               refused with 144, poke too, and fresh where there is a file
+  fresh [atr|double]           another disk: fresh, with all channels closed and the notch open; a raw image,
+                               or an ATR file of single or double density. An image in a file stays what it is
+  save [FILE]                  write the image back, or to a new FILE; what was changed before the notch was
+                               closed is written too. A file whose notch starts closed is never written back
+  help, quit
 
-A number is decimal, or hexadecimal behind $ or 0x. BUFFER is N*XX (N bytes of
-hexadecimal value XX), pairs of hexadecimal digits, - for none, or text in
-quotes. In quotes \\xNN is one byte.
+A number is decimal, or hexadecimal behind $ or 0x. BUFFER is N*XX (N bytes of hexadecimal value XX),
+pairs of hexadecimal digits, - for none, or text in quotes. In quotes \\xNN is one byte.
 ";
 
 struct Shell<'a> {
     disk: Disk<Vec<u8>>,
     file: Option<ImageFile>,
-    /// The image as the file has it; without a file, as it was last saved, or at the start.
+    /// The image as the file has it.
     saved: Vec<u8>,
     out: &'a mut dyn Write,
 }
 
-/// Where the shell's lines come from.
-struct Lines {
-    input: io::StdinLock<'static>,
-    /// Whether a person types them.
-    terminal: bool,
-}
-
 /// `desk shell`: reads lines to the end or to `quit`.
 pub fn run(arguments: &Arguments, out: &mut dyn Write) -> Result<(), Failure> {
-    line_editing::begin();
     let mut shell = Shell::new(arguments, out)?;
     if shell.disk.notch() == Notch::Closed {
         shell.tell_notch()?;
     }
-    let mut lines = Lines::new()?;
+    let mut input = io::stdin().lock();
+    let terminal = input.is_terminal();
     let mut failed = 0;
-    let end = loop {
-        match shell.next(&mut lines) {
+    while let Some(line) = next_line(&mut input, terminal)? {
+        match shell.line(&line) {
             Ok(true) => {}
-            Ok(false) => break Ok(()),
-            Err(Stop::Line(failure)) => {
+            Ok(false) => break,
+            Err(failure) => {
                 failed += 1;
                 writeln!(shell.out, "? {failure}")?;
             }
-            Err(Stop::Input(failure)) => break Err(failure),
         }
         shell.out.flush()?;
-    };
+    }
     shell.remind()?;
-    end?;
     match failed {
         0 => Ok(()),
         lines => Err(Failure::new(format!(
@@ -144,49 +108,15 @@ pub fn run(arguments: &Arguments, out: &mut dyn Write) -> Result<(), Failure> {
     }
 }
 
-/// What keeps a line from being carried out: the line itself, or that no more lines can be read.
-enum Stop {
-    Line(Failure),
-    Input(Failure),
-}
-
-impl Lines {
-    fn new() -> Result<Lines, Failure> {
-        let input = system::standard_input().map_err(|error| error.to_string())?;
-        let terminal = input.is_terminal();
-        Ok(Lines { input, terminal })
+/// Reads a line, with a prompt before it where a person types.
+fn next_line(input: &mut dyn BufRead, terminal: bool) -> Result<Option<Vec<u8>>, Failure> {
+    if terminal {
+        // Where no prompt can be printed, the lines can still be read.
+        let _ = write!(io::stderr(), "desk> ");
     }
-
-    /// Reads a line, with a prompt before it where a person types; none at the end. Behind a line that is too long nothing is
-    /// read any more: what would be cut off of it must not be taken for calls.
-    fn next(&mut self, prompt: &str) -> Result<Option<Vec<u8>>, Failure> {
-        if self.terminal {
-            // Where no prompt can be printed, the lines can still be read.
-            let _ = write!(io::stderr(), "{prompt}");
-        }
-        let mut line = Vec::new();
-        let mut limited = self.input.by_ref().take(LONGEST_LINE + 1);
-        let length = limited
-            .read_until(b'\n', &mut line)
-            .about("standard input")?;
-        if length as u64 > LONGEST_LINE {
-            return Err(Failure::new(format!(
-                "standard input: a line is longer than {LONGEST_LINE} bytes, and was not read, nor what follows it"
-            )));
-        }
-        Ok((length > 0).then_some(line))
-    }
-
-    /// Asks a person whether to go on; where there is nobody to ask any more, that is a yes.
-    fn agreed(&mut self, question: &str) -> Result<bool, Failure> {
-        let answer = self.next(&format!("{question} (yes or no) "))?;
-        Ok(answer.is_none_or(|answer| {
-            answer
-                .trim_ascii_start()
-                .first()
-                .is_some_and(|first| b"yY".contains(first))
-        }))
-    }
+    let mut line = Vec::new();
+    let length = input.read_until(b'\n', &mut line).about("standard input")?;
+    Ok((length > 0).then_some(line))
 }
 
 /// What a fresh disk can be made as.
@@ -208,7 +138,7 @@ fn notch_named(word: &str) -> Result<Notch, Failure> {
 
 impl<'a> Shell<'a> {
     fn new(arguments: &Arguments, out: &'a mut dyn Write) -> Result<Shell<'a>, Failure> {
-        let protect = arguments.has(&PROTECT);
+        let protect = arguments.has(PROTECT);
         let Some(image) = arguments.operands.first() else {
             let notch = if protect { Notch::Closed } else { Notch::Open };
             let disk = Disk::fresh().with_notch(notch);
@@ -219,32 +149,13 @@ impl<'a> Shell<'a> {
                 out,
             });
         };
-        let wait = arguments.has(&WAIT);
-        let (file, bytes) = ImageFile::open_any(Path::new(image), protect, wait)?;
+        let (file, bytes) = ImageFile::open_any(Path::new(image), protect)?;
         Ok(Shell {
             disk: Disk::new(bytes.clone()).with_notch(file.notch()),
             file: Some(file),
             saved: bytes,
             out,
         })
-    }
-
-    /// Reads a line and carries it out. Says whether to go on.
-    fn next(&mut self, lines: &mut Lines) -> Result<bool, Stop> {
-        let line = lines.next("desk> ").map_err(Stop::Input)?;
-        let goes_on = match line {
-            Some(line) => self.line(&line).map_err(Stop::Line)?,
-            None => false,
-        };
-        Ok(goes_on || !self.may_end(lines).map_err(Stop::Input)?)
-    }
-
-    /// Whether changes that were not saved may be dropped: a person is asked.
-    fn may_end(&mut self, lines: &mut Lines) -> Result<bool, Failure> {
-        if !lines.terminal || self.saved == self.disk.image() {
-            return Ok(true);
-        }
-        lines.agreed("There are changes that were not saved. Drop them?")
     }
 
     /// Carries a line out. Says whether to go on.
@@ -262,7 +173,7 @@ impl<'a> Shell<'a> {
             return Ok(true);
         };
         match (first.text()?, arguments) {
-            ("quit" | "exit", []) => return Ok(false),
+            ("quit", []) => return Ok(false),
             (verb, arguments) => self.carry_out(verb, arguments)?,
         }
         Ok(true)
@@ -305,9 +216,7 @@ impl<'a> Shell<'a> {
             ("notch", [notch]) => self.set_notch(notch_named(notch.text()?)?),
             ("fresh", []) => self.fresh(Kind::Raw),
             ("fresh", [kind]) => self.fresh(kind_named(kind.text()?)?),
-            ("list", []) => listing::table(&self.directory()?, self.out),
-            ("map", []) => self.map(),
-            ("map", [sector]) => self.owner(value(sector)?),
+            ("list", []) => directory::list(&self.disk, self.out),
             ("save", []) => self.save(),
             ("save", [file]) => self.save_new(Path::new(file.text()?)),
             ("help", []) => Ok(write!(self.out, "{HELP}")?),
@@ -359,33 +268,16 @@ impl<'a> Shell<'a> {
         call: impl FnOnce(&mut Disk<Vec<u8>>, &str) -> Result<(), Status>,
         name: &Word,
     ) -> Understood {
-        let name = raised(name.text()?);
-        let answer = call(&mut self.disk, &name);
-        self.status(answer, &name)
+        let name = name.text()?;
+        let answer = call(&mut self.disk, name);
+        self.status(answer, name)
     }
 
     /// Either name may be padded, as they are words of their own: to the library the old one ends at a comma only.
     fn rename(&mut self, old: &Word, new: &Word) -> Understood {
-        let (old, new) = (raised(old.text()?), raised(new.text()?));
-        let old = old.trim_end_matches(' ');
-        let answer = self.disk.rename(old, &new);
+        let (old, new) = (old.text()?.trim_end_matches(' '), new.text()?);
+        let answer = self.disk.rename(old, new);
         self.status(answer, &format!("{old},{new}"))
-    }
-
-    fn directory(&self) -> Result<Directory, Failure> {
-        self.disk.directory().about("directory")
-    }
-
-    fn map(&mut self) -> Understood {
-        let picture = picture::picture(&self.directory()?, wants_colour());
-        Ok(write!(self.out, "{picture}")?)
-    }
-
-    fn owner(&mut self, sector: u16) -> Understood {
-        let owner = map::owner(&self.directory()?, sector);
-        let owner = owner.ok_or(Status::BadRequest);
-        let owner = owner.about(format!("sector {sector}"))?;
-        Ok(writeln!(self.out, "{owner}")?)
     }
 
     fn format(&mut self) -> Understood {
@@ -486,23 +378,18 @@ impl<'a> Shell<'a> {
             return Err(Failure::new("the disk is in memory only: save FILE"));
         };
         file.write_back(self.disk.image())?;
-        note_other_names(file.path().as_os_str(), file);
         let path = file.path().display().to_string();
-        self.saved = self.disk.image().to_vec();
-        self.tell_saved(&path)
+        self.now_saved(&path)
     }
 
-    /// A copy is another file: what was changed since is still to be saved to the image's own, where there is one.
     fn save_new(&mut self, path: &Path) -> Understood {
         image_file::create(path, self.disk.image())?;
-        if self.file.is_none() {
-            self.saved = self.disk.image().to_vec();
-        }
-        self.tell_saved(&path.display().to_string())
+        self.now_saved(&path.display().to_string())
     }
 
     /// Says what was saved, and which channels leave their file open for output in it.
-    fn tell_saved(&mut self, path: &str) -> Understood {
+    fn now_saved(&mut self, path: &str) -> Understood {
+        self.saved = self.disk.image().to_vec();
         writeln!(self.out, "saved {path}")?;
         for (n, channel) in self.disk.table().channels().enumerate() {
             if channel.kind == WRITING {

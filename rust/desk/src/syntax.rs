@@ -1,6 +1,6 @@
 //! Words, numbers and buffers of the shell's lines.
 
-use std::{fmt::Display, num::IntErrorKind};
+use std::num::IntErrorKind;
 
 /// The longest buffer that a line may ask for.
 const LONGEST: usize = 1 << 20;
@@ -91,33 +91,17 @@ fn escape<'a>(text: &'a str, bytes: &mut Vec<u8>) -> Result<&'a str, String> {
 
 /// A number: decimal, or hexadecimal behind $ or 0x.
 pub fn number<T: TryFrom<u32>>(text: &str) -> Result<T, String> {
-    fitting(text)?.ok_or_else(|| format!("{text}: too large"))
-}
-
-/// A number that the library is to judge, with its text for messages. One that is too large to be lent is lent as the largest,
-/// which the library refuses for the same reason.
-pub fn judged<T: TryFrom<u32> + Display>(text: &str, largest: T) -> Result<(T, String), String> {
-    Ok(match fitting::<T>(text)? {
-        Some(value) => {
-            let shown = value.to_string();
-            (value, shown)
-        }
-        None => (largest, text.to_string()),
-    })
-}
-
-/// A number, or none where it does not fit its type.
-fn fitting<T: TryFrom<u32>>(text: &str) -> Result<Option<T>, String> {
     let value = match text.strip_prefix('$').or_else(|| text.strip_prefix("0x")) {
         Some(digits) if !digits.starts_with('+') => u32::from_str_radix(digits, 16),
         _ if text.starts_with('+') => return Err(format!("{text}: not a number")),
         _ => text.parse(),
     };
-    match value {
-        Ok(value) => Ok(T::try_from(value).ok()),
-        Err(error) if *error.kind() == IntErrorKind::PosOverflow => Ok(None),
-        Err(_) => Err(format!("{text}: not a number")),
-    }
+    let too_large = || format!("{text}: too large");
+    let value = value.map_err(|error| match error.kind() {
+        IntErrorKind::PosOverflow => too_large(),
+        _ => format!("{text}: not a number"),
+    })?;
+    T::try_from(value).map_err(|_| too_large())
 }
 
 /// A word that is a number.
@@ -213,14 +197,6 @@ mod tests {
         }
         for wrong in ["", "-1", "+1", "$", "$+1", "0x", "1x"] {
             assert_eq!(number::<u32>(wrong), Err(format!("{wrong}: not a number")));
-            assert_eq!(
-                judged(wrong, u8::MAX),
-                Err(format!("{wrong}: not a number"))
-            );
-        }
-        assert_eq!(judged("$3F", u8::MAX), Ok((63, "63".to_string())));
-        for large in ["300", "$12C", "99999999999"] {
-            assert_eq!(judged(large, u8::MAX), Ok((u8::MAX, large.to_string())));
         }
     }
 

@@ -55,7 +55,7 @@ statuses! {
     EndOfFile = 136, "the file has ended";
     TruncatedRecord = 137, "the line did not end within the buffer, and its rest was dropped";
     NoDevice = 138, "no such device: only device $31, unit 1 answers";
-    BadRequest = 139, "no such sector (they are 1 to 720) or sector command";
+    BadRequest = 139, "no such sector or sector command";
     WriteProtected = 144, "the write-protect notch is closed";
     BadUnit = 160, "no such drive: there is only drive 1";
     DiskFull = 162, "no sector is free";

@@ -3,11 +3,11 @@
 use std::fmt;
 
 /// Sectors of a disk; they count from 1.
-pub(crate) const SECTORS: usize = 720;
+const SECTORS: usize = 720;
 /// Sectors that hold the bytes of files.
-pub(crate) const DATA_SECTORS: usize = 707;
+const DATA_SECTORS: usize = 707;
 /// Sectors 1 to 3, which have 128 bytes in either density.
-pub(crate) const BOOT_SECTORS: usize = 3;
+const BOOT_SECTORS: usize = 3;
 const BOOT_SECTOR_BYTES: usize = 128;
 /// Bytes of a file sector behind its data.
 const LINK_BYTES: usize = 3;
@@ -83,14 +83,8 @@ impl Kind {
     /// Where a byte of a sector stands in the image: nowhere if there is no such sector or the sector has no such byte.
     pub fn offset(self, sector: u16, byte: usize) -> Option<usize> {
         let is_there = (1..=SECTORS).contains(&sector.into()) && byte < self.sector_bytes(sector);
-        is_there.then(|| self.start(sector) + byte)
-    }
-
-    /// Where a sector that is there begins in the image.
-    pub(crate) fn start(self, sector: u16) -> usize {
-        let before = usize::from(sector) - 1;
-        let boot = before.min(BOOT_SECTORS);
-        self.header_bytes() + boot * BOOT_SECTOR_BYTES + (before - boot) * self.full_sector_bytes()
+        let before: usize = (1..sector).map(|before| self.sector_bytes(before)).sum();
+        is_there.then_some(self.header_bytes() + before + byte)
     }
 
     /// Bytes of each sector behind the third.

@@ -25,29 +25,6 @@
 //! # Ok::<(), Box<dyn std::error::Error>>(())
 //! ```
 //!
-//! # Whole files and the directory
-//!
-//! [`Disk::read_file`] and [`Disk::write_file`] take a file whole. [`Disk::directory`] says what is on a disk: the files and
-//! deleted files, what can be done with each, and what every sector is used for. Flags, names and links are read from the
-//! sectors; what can be done with a file is the library's answer, on a copy. [`Disk::by_slot`] serves a file whose name cannot
-//! be typed.
-//!
-//! ```
-//! use hilugsaban::Disk;
-//!
-//! let mut disk = Disk::fresh();
-//! disk.write_file("HEATS.DAT", b"31.05")?;
-//! disk.write_file("ENDS.DAT", b"58.31")?;
-//! disk.delete("HEATS.DAT")?;
-//! for entry in disk.directory()?.entries {
-//!     if entry.deleted().is_some_and(|file| file.recovery.is_ok()) {
-//!         disk.recover(entry.slot)?;
-//!     }
-//! }
-//! assert_eq!(disk.read_file("HEATS.DAT")?, b"31.05");
-//! # Ok::<(), Box<dyn std::error::Error>>(())
-//! ```
-//!
 //! # Lines
 //!
 //! A line of text ends with [`END_OF_LINE`], $9B. [`Disk::get_record`] reads one into a buffer and drops what the buffer does
@@ -108,40 +85,7 @@
 //! # Linking
 //!
 //! The build links `libcapi.a` from the repository's `target/staticlib`, where `rt staticlib capi` writes it, or from the
-//! folder that the environment variable `HILUGSABAN_LIB` names by an absolute path. A copy of this crate's folder needs nothing
-//! else of the repository.
-//!
-//! # Threads
-//!
-//! The library keeps nothing between two calls and has no global state. Any number of threads may call it at once on different
-//! images. On one image and its table one call at a time may change them, with no other call meanwhile. Calls that only read,
-//! [`Disk::show`] and [`Disk::thin_get`] with a channel of its own for each, may run at once on the same image.
-//!
-//! The borrow checker asks for just that: a [`Disk`] can be sent to another thread, a `&Disk` shared by several, and what
-//! changes the image or the table takes a `&mut Disk`.
-//!
-//! ```
-//! use hilugsaban::{Channel, Disk};
-//! use std::thread;
-//!
-//! let mut disk = Disk::fresh();
-//! disk.write_file("A", &[7; 1000])?;
-//! let file = &disk.directory()?.entries[0];
-//! let read = || {
-//!     let mut channel = Channel::reading(file.slot.into(), file.sectors);
-//!     let mut bytes = [0; 1000];
-//!     disk.thin_get(&mut channel, &mut bytes).map(|_| bytes)
-//! };
-//! let (one, other) = thread::scope(|scope| {
-//!     let (one, other) = (scope.spawn(read), scope.spawn(read));
-//!     (one.join().unwrap(), other.join().unwrap())
-//! });
-//! assert_eq!((one?, other?), ([7; 1000], [7; 1000]));
-//!
-//! let deleted = thread::spawn(move || disk.delete("A").map(|()| disk));
-//! assert_eq!(deleted.join().unwrap()?.directory()?.free_sectors, 707);
-//! # Ok::<(), Box<dyn std::error::Error>>(())
-//! ```
+//! folder that the environment variable `HILUGSABAN_LIB` names by an absolute path.
 //!
 //! # The notch
 //!
@@ -155,28 +99,22 @@
 #![warn(missing_docs)]
 
 mod answer;
-mod directory;
 mod disk;
 mod kind;
-mod layout;
 mod lines;
 mod name;
 mod notch;
 #[allow(unsafe_code)]
 pub mod raw;
-mod sector_map;
 mod stream;
 mod table;
-mod whole;
 
 pub use answer::{Answer, Got, Incomplete, Status};
-pub use directory::{Deleted, Directory, Entry, Standing, State};
 pub use disk::{command, Direction, Disk};
 pub use kind::Kind;
 pub use lines::{Line, LineWriter, Lines, END_OF_LINE};
 pub use name::{padded_name, read_name, ReadName};
 pub use notch::Notch;
-pub use sector_map::{Owner, SectorMap, SectorUse};
 pub use stream::{Reader, Writer};
 pub use table::{Channel, Table, CHANNELS, CLOSED, READING, WRITING};
 

@@ -42,25 +42,6 @@ impl Channel {
         }
     }
 
-    /// A channel that writes behind the last sector of the file in a slot.
-    ///
-    /// ```
-    /// # use hilugsaban::{Channel, Direction, Disk};
-    /// # let mut disk = Disk::fresh();
-    /// disk.open(0, Direction::Write, "A")?;
-    /// assert_eq!(disk.table().channel(0), Channel::writing(0, 4));
-    /// # Ok::<(), hilugsaban::Status>(())
-    /// ```
-    pub fn writing(slot: u16, last: u16) -> Channel {
-        Channel {
-            kind: WRITING,
-            slot,
-            sector: last,
-            offset: 0,
-            left: 0,
-        }
-    }
-
     /// Its words in the library's order.
     pub fn words(self) -> [u16; WORDS] {
         [self.kind, self.slot, self.sector, self.offset, self.left]

@@ -69,9 +69,7 @@ the notch is open, but save leaves the file alone: the file may not be written
 ? ";
     assert!(printed.starts_with(expected), "{printed}");
     assert!(
-        printed.ends_with(
-            "disk: left alone: the file may not be written\nsaved copy\nchanges not saved\n"
-        ),
+        printed.ends_with("disk: left alone: the file may not be written\nsaved copy\n"),
         "{printed}"
     );
     assert_eq!(output.status.code(), Some(1));

@@ -59,8 +59,8 @@ fn put_and_get_are_refused_with_the_status() {
         .refuse(&["get", "disk", "C"])
         .starts_with("desk: C: 170 "));
     assert!(folder
-        .refuse(&["get", "disk", "a-dat"])
-        .starts_with("desk: A-DAT: 165 "));
+        .refuse(&["get", "disk", "a.dat"])
+        .starts_with("desk: a.dat: 165 "));
     assert!(folder
         .refuse(&["get", "disk", "D2:B"])
         .starts_with("desk: D2:B: 160 "));
@@ -74,8 +74,8 @@ fn put_and_get_are_refused_with_the_status() {
         .refuse(&["put", "disk", "long"])
         .contains(": 162 no sector is free, after 88000 bytes"));
     assert!(folder
-        .refuse(&["put", "disk", "lower", "lower-1"])
-        .starts_with("desk: LOWER-1: 165 "));
+        .refuse(&["put", "disk", "lower", "lower"])
+        .contains("165"));
     assert!(folder
         .refuse(&["put", "disk", "lower", "D:A\u{e4}"])
         .contains("165"));
@@ -103,13 +103,13 @@ fn list_shows_files_and_deleted_files() {
         disk.put(0, &[0; 300]).unwrap();
     });
     let expected = "\
-slot  name          sectors   bytes  state
-   0  A.DAT               1       1  clean, locked
-   1  F                   3     300  clean, open for output
+slot  name          sectors   bytes
+   0  A.DAT               1       1  locked
+   1  F                   3     300  open for output
    2  C                   2       -  deleted, cannot be recovered: 202 not all sectors of the deleted file are still free and its own
-   3  E                   1       0  clean
+   3  E                   1       0
    4  F                   1       -  deleted, cannot be recovered: 201 another file has this name
-702 free sectors; the volume table is good; no file uses a free sector
+702 free sectors
 ";
     assert_eq!(folder.run(&["list", "disk"]), expected);
 
@@ -118,10 +118,10 @@ slot  name          sectors   bytes  state
         disk.delete("A.DAT").unwrap();
     });
     let expected = "\
-slot  name          sectors   bytes  state
+slot  name          sectors   bytes
    0  A.DAT               1       1  deleted, can be recovered
-   1  B                   2     126  clean
-705 free sectors; the volume table is good; no file uses a free sector
+   1  B                   2     126
+705 free sectors
 ";
     assert_eq!(folder.run(&["list", "disk"]), expected);
 }
@@ -143,7 +143,7 @@ fn delete_lock_and_unlock_take_all_names_or_none() {
     assert_eq!(folder.run(&["delete", "disk", "A.DAT", "B"]), "");
     assert!(folder
         .run(&["list", "disk"])
-        .contains("\n707 free sectors; "));
+        .ends_with("707 free sectors\n"));
 }
 
 #[test]
@@ -179,20 +179,17 @@ fn recover_takes_a_slot_or_a_name() {
             format!("desk: slot {number}: 170 no deleted file is in this slot\n")
         );
     }
-    for beyond in ["256", "300", "99999999999"] {
-        assert_eq!(
-            folder.refuse(&["recover", "disk", beyond]),
-            format!("desk: slot {beyond}: 170 no deleted file is in this slot\n")
-        );
-    }
+    assert_eq!(
+        folder.refuse(&["recover", "disk", "256"]),
+        "desk: 256: too large\n"
+    );
     assert_eq!(
         folder.refuse(&["recover", "disk", "B"]),
         "desk: B: 170 no deleted file has this name\n"
     );
-    assert_eq!(
-        folder.refuse(&["recover", "disk", "b"]),
-        "desk: B: 170 no deleted file has this name\n"
-    );
+    assert!(folder
+        .refuse(&["recover", "disk", "b"])
+        .starts_with("desk: b: 165 "));
     folder.run(&["delete", "disk", "B"]);
     folder.run(&["rename", "disk", "A.DAT", "B"]);
     assert!(folder
@@ -254,14 +251,9 @@ fn sector_prints_bytes() {
     assert!(folder
         .refuse(&["sector", "disk", "0"])
         .starts_with("desk: sector 0: 139 "));
-    for beyond in ["721", "70000", "$10000", "99999999999"] {
-        assert_eq!(
-            folder.refuse(&["sector", "disk", beyond]),
-            format!(
-                "desk: sector {beyond}: 139 no such sector (they are 1 to 720) or sector command\n"
-            )
-        );
-    }
+    assert!(folder
+        .refuse(&["sector", "disk", "721"])
+        .starts_with("desk: sector 721: 139 "));
     assert_eq!(
         folder.refuse(&["sector", "disk", "x"]),
         "desk: x: not a number\n"
@@ -277,7 +269,7 @@ fn a_damaged_chain_is_reported_and_left() {
     });
     assert!(folder
         .run(&["list", "disk"])
-        .contains("0  A                   3       -  NOT CLEAN: damaged (164) after 250 bytes\n"));
+        .contains("0  A                   3       -  164 "));
     assert!(folder.refuse(&["get", "disk", "A", "out"]).contains(
         "desk: A: 164 the file's sectors, or its channel, do not fit together, after 250 bytes"
     ));
@@ -293,9 +285,9 @@ fn a_damaged_volume_table_is_reported_and_left() {
         two_files(disk);
         disk.image_mut()[359 * 128 + 3] ^= 1;
     });
-    assert!(folder.run(&["list", "disk"]).ends_with(
-        "705 free sectors; the volume table is damaged (163); no file uses a free sector\n"
-    ));
+    assert!(folder
+        .run(&["list", "disk"])
+        .ends_with("705 free sectors by a volume table that is damaged (163)\n"));
     assert!(folder
         .refuse(&["delete", "disk", "B"])
         .starts_with("desk: B: 163 "));
@@ -318,7 +310,7 @@ fn strange_directories_are_listed() {
         "{listing}"
     );
     assert!(
-        listing.contains("   1  \\x9b                2     126  clean\n"),
+        listing.contains("   1  \\x9b                2     126\n"),
         "{listing}"
     );
 }
@@ -402,28 +394,12 @@ fn every_command_has_help_and_counts_its_arguments() {
     let overview = folder.run(&["--help"]);
     assert_eq!(folder.run(&["help"]), overview);
     let commands = [
-        "new",
-        "convert",
-        "list",
-        "map",
-        "get",
-        "put",
-        "delete",
-        "recover",
-        "rename",
-        "close",
-        "lock",
-        "unlock",
-        "sector",
-        "shell",
-        "demo",
-        "manual",
-        "completion",
+        "new", "convert", "list", "get", "put", "delete", "recover", "rename", "lock", "unlock",
+        "sector", "shell", "demo",
     ];
     for command in commands {
         assert!(
-            overview.contains(&format!("\n  {command} "))
-                || overview.contains(&format!("desk {command} ")),
+            overview.contains(&format!("  desk {command} ")),
             "{command}"
         );
         let help = folder.run(&[command, "--help"]);
@@ -433,7 +409,7 @@ fn every_command_has_help_and_counts_its_arguments() {
         );
         assert!(!help.contains(" \n"), "{command}");
         assert_eq!(folder.run(&["help", command]), help);
-        if !["shell", "demo", "manual"].contains(&command) {
+        if command != "shell" && command != "demo" {
             assert!(folder
                 .refuse(&[command])
                 .starts_with(&format!("desk: usage: desk {command} ")));

@@ -245,13 +245,15 @@ fn what_is_not_written_needs_no_lock() {
 fn help_tells_of_protect() {
     let folder = Folder::new();
     let overview = folder.run(&["--help"]);
-    assert!(overview.contains("\nWith --protect "), "{overview}");
+    assert!(overview.contains("\nWith --protect, "), "{overview}");
+    assert!(overview.lines().count() < 24, "{overview}");
     for command in [
         "convert", "list", "get", "put", "delete", "recover", "rename", "lock", "unlock", "sector",
         "shell",
     ] {
         let help = folder.run(&[command, "--help"]);
-        assert!(help.contains("\n  --protect "), "{help}");
+        let usage = format!("usage: desk {command} [--protect] ");
+        assert!(help.starts_with(&usage), "{help}");
         assert!(help.contains("\nWith --protect, "), "{help}");
     }
 }
@@ -290,15 +292,15 @@ the notch is open
 the notch is closed
 144 the write-protect notch is closed; count 0
 1 success; count 0
-slot  name          sectors   bytes  state
-   0  A                   1       3  clean
-706 free sectors; the volume table is good; no file uses a free sector
+slot  name          sectors   bytes
+   0  A                   1       3
+706 free sectors
 the notch is open
 1 success; count 0
 the notch is closed
-slot  name          sectors   bytes  state
+slot  name          sectors   bytes
    0  A                   1       3  deleted, can be recovered
-707 free sectors; the volume table is good; no file uses a free sector
+707 free sectors
 ? ajar: neither open nor closed
 ? no call notch with 2 arguments: see help
 ";
@@ -475,6 +477,7 @@ saved copy
 1 success; count 2
 the notch is closed: {why}
 ? {path}: left alone: {why}
+changes not saved
 "
         );
         assert_eq!(folder.shell(arguments, script), (expected, Some(1)));

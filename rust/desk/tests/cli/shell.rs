@@ -51,9 +51,9 @@ yes; offset 384, length 3
 1 success; count 0
 1 success; count 0
 1 success; count 1
-slot  name          sectors   bytes  state
-   0  B.TXT               1       3  clean
-706 free sectors; the volume table is good; no file uses a free sector
+slot  name          sectors   bytes
+   0  B.TXT               1       3
+706 free sectors
 ";
     let folder = Folder::new();
     assert_eq!(folder.shell(&[], script), (expected.to_string(), Some(0)));
@@ -194,8 +194,8 @@ fn shell_formats_by_the_call_and_begins_again_by_fresh() {
 200 the file is open, or for a format a channel; count 0
 1 success; count 0
 1 success; count 0
-slot  name          sectors   bytes  state
-707 free sectors; the volume table is good; no file uses a free sector
+slot  name          sectors   bytes
+707 free sectors
 changes not saved
 ";
     assert_eq!(printed, expected);
@@ -337,12 +337,12 @@ list
         "sector 4 byte 255 is 9",
         "yes; offset 400, length 9",
         "? ATR file of double density: sector 1 has no byte 128",
-        "slot  name          sectors   bytes  state",
-        "705 free sectors; the volume table is good; no file uses a free sector",
+        "slot  name          sectors   bytes",
+        "705 free sectors",
     ];
     assert_eq!(lines, expected, "{printed}");
     assert!(
-        printed.contains("   0  A                   2      10  clean\n"),
+        printed.contains("   0  A                   2      10\n"),
         "{printed}"
     );
     assert_eq!(status, Some(1));

@@ -107,9 +107,10 @@ fn only_get_and_put_take_text() {
     }
     for command in ["get", "put"] {
         let help = folder.run(&[command, "--help"]);
-        assert!(help.contains("\n  --text "), "{help}");
+        let usage = format!("usage: desk {command} [--protect] [--text] IMAGE ");
+        assert!(help.starts_with(&usage), "{help}");
         assert!(help.contains("\nWith --text each "), "{help}");
-        assert!(help.contains("a last line without a"), "{help}");
+        assert!(help.contains(" a last line without"), "{help}");
     }
 }
 
