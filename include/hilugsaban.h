@@ -1,7 +1,7 @@
 /*
  * hilugsaban.h: Atari DOS 2 disk images in memory.
  *
- * The calls of libcapi.a, which `rt staticlib capi` proves and writes to
+ * The calls of libcapi.a, which `tools/archive.sh` proves and writes to
  * target/staticlib/. Link the archive behind the sources that use it:
  *
  *     cc -Iinclude program.c target/staticlib/libcapi.a

@@ -13,7 +13,7 @@ fn main() {
     println!("cargo:rerun-if-changed={}", archive.display());
     if !archive.is_file() {
         let archive = archive.display();
-        println!("cargo::error=no {archive}: run `rt staticlib capi` in the repository, or set HILUGSABAN_LIB to the folder of libcapi.a");
+        println!("cargo::error=no {archive}: run `tools/archive.sh` in the repository, or set HILUGSABAN_LIB to the folder of libcapi.a");
         return;
     }
     println!("cargo:rustc-link-search=native={}", folder.display());

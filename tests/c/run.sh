@@ -8,7 +8,7 @@ library=${HILUGSABAN_LIB:-$root/target/staticlib}/libcapi.a
 work=$(mktemp -d)
 trap 'rm -rf "$work"' EXIT
 
-[ -f "$library" ] || { echo "tests/c/run.sh: no $library: run rt staticlib capi" >&2; exit 1; }
+[ -f "$library" ] || { echo "tests/c/run.sh: no $library: run tools/archive.sh" >&2; exit 1; }
 
 sed -n 's/^uint64_t \(dos_[a-z_]*\)(.*/\1/p' "$root/include/hilugsaban.h" | sort >"$work/declared"
 nm --defined-only --extern-only "$library" | sed -n 's/.* T //p' | sort >"$work/defined"

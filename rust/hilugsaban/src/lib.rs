@@ -84,7 +84,7 @@
 //!
 //! # Linking
 //!
-//! The build links `libcapi.a` from the repository's `target/staticlib`, where `rt staticlib capi` writes it, or from the
+//! The build links `libcapi.a` from the repository's `target/staticlib`, where `tools/archive.sh` writes it, or from the
 //! folder that the environment variable `HILUGSABAN_LIB` names by an absolute path.
 //!
 //! # The notch
