@@ -276,16 +276,16 @@ shows() {
     [ ! -e "$work/log.ended" ] || failed=1
 }
 
-# Six crates, one of which is not needed. The right one stands lower than the left one, so rt takes it first.
+# Six crates, one of which is not needed, and one that has not changed, of which rt says nothing. They are taken in the order in which
+# the crates above name them.
 mkdir "$work/small"
 cd "$work/small" || exit 1
-printf '%s\n' 'top: left right io # above both' 'aside: base' 'left: middle' '' 'right: base' 'middle: base' 'base:' >crates.txt
-printf '%s\n' 'fn base::f: proved' 'rt: base proved (5 s)' 'rt: middle proved (unchanged since it was last proved)' 'rt: right proved (2 s)' 'rt: left proved (3 s)' >said
+printf '%s\n' 'top staticlib: left right io # above both' 'aside: base' 'left: middle' '' 'right: base' 'middle: base' 'base:' >crates.txt
+printf '%s\n' 'rt: base: begins with what a check kept in /elsewhere' 'rt: chose --jobs 2 for base' 'fn base::f: proved' 'rt: chose --jobs 2 for left' 'rt: chose --jobs 4 for right' 'logic=proved functions=1' 'rt: chose --jobs 1 for top' >said
 cat >"$work/wanted" <<'END'
 desk: proving base, 0 of 5 done
-desk: proving middle, 1 of 5 done
-desk: proving right, 2 of 5 done
-desk: proving left, 3 of 5 done
+desk: proving left, 2 of 5 done
+desk: proving right, 3 of 5 done
 desk: proving top, 4 of 5 done
 desk: all 5 crates proved
 END
@@ -293,22 +293,35 @@ shows 0 top "$work/log" cat said
 cmp said "$work/log" || failed=1
 
 # A line comes while its crate is being proved: here rt goes on when it is there, and after ten seconds gives up.
-waits='head -n 3 said; for i in 1 2 3 4 5 6 7 8 9 10; do ! grep -q "proving right" "$1" || { tail -n 2 said; exit 0; }; sleep 1; done; exit 1'
+waits='head -n 5 said; for i in 1 2 3 4 5 6 7 8 9 10; do ! grep -q "proving right" "$1" || { tail -n 2 said; exit 0; }; sleep 1; done; exit 1'
 shows 0 top "$work/log" sh -c "$waits" sh "$work/raw"
 
 # On a terminal it is one line.
 expect 0 "desk: all 5 crates proved" script -qec "'$root/tools/progress.sh' top '$work/log' cat said" /dev/null
 [ "$(wc -l <"$work/printed")" -eq 1 ] || { echo "more than one line on a terminal"; failed=1; }
 
-# A crate that is not proved does not count; the status is the command's.
-printf '%s\n' 'rt: base proved (5 s)' 'rt: middle proved (4 s)' 'rt: right NOT PROVED (exit 1, 2 s)' 'rt: left proved (3 s)' 'rt: FAILED: right' >said
-sed -i -e '/all 5/d' -e 's/left, 3/left, 2/' -e 's/top, 4/top, 3/' "$work/wanted"
+# Where a crate is not proved rt begins none above it; the status is the command's.
+printf '%s\n' 'rt: chose --jobs 2 for base' 'logic=proved functions=1' 'rt: chose --jobs 2 for middle' 'logic=not-proved' 'rt: the library middle did not build, so nothing above it was checked' >said
+printf '%s\n' 'desk: proving base, 0 of 5 done' 'desk: proving middle, 1 of 5 done' >"$work/wanted"
 shows 7 top "$work/log" sh -c 'cat said; exit 7'
 
-# The library's own crates, each proved by now: they are shown in the order in which rt says so.
-cd "$root" || exit 1
-(PATH=$PATH:/opt/rattle/bin rt check capi) >"$work/said"
-awk '$1 == "rt:" && $3 == "proved" { name[n++] = $2 }
-    END { for (i = 0; i < n; i++) print "desk: proving " name[i] ", " i " of " n " done"; print "desk: all " n " crates proved" }' "$work/said" >"$work/wanted"
-shows 0 capi "$work/log" cat "$work/said"
+# The same with rt's own lines, of four small crates: the right one stands lower than the left one, and comes behind it.
+mkdir "$work/own"
+cd "$work/own" || exit 1
+printf '%s\n' 'shown_top: shown_left shown_right' 'shown_left: shown_base' 'shown_right:' 'shown_base:' >crates.txt
+for name in base left right top; do
+    mkdir -p "crates/shown_$name/src"
+    echo '// Nothing.' >"crates/shown_$name/src/lib.rt"
+done
+own='cd crates/shown_top && PATH=$PATH:/opt/rattle/bin exec rt lib'
+cat >"$work/wanted" <<'END'
+desk: proving shown_base, 0 of 4 done
+desk: proving shown_left, 1 of 4 done
+desk: proving shown_right, 2 of 4 done
+desk: proving shown_top, 3 of 4 done
+desk: all 4 crates proved
+END
+shows 0 shown_top "$work/log" sh -c "$own"
+echo 'desk: all 4 crates proved' >"$work/wanted"
+shows 0 shown_top "$work/log" sh -c "$own"
 exit "$failed"
