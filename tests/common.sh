@@ -1,9 +1,8 @@
-# What the scripts that try wrong changes share. Sourced by tests/edits.sh and tests/spoiled.sh, after rt ci: both stand on what it
-# proved, target/rlib.
+# What the scripts that try wrong changes share. Sourced by tests/facts.sh and tests/spoiled.sh, after rt ci.
 #
-# A change is tried on copies of the crates that it touches, in a repository made for it. Where rt proves a library it leaves every
-# module that it checked in the library's rlib; a copy begins with those, so that of an edited copy only what the edit touches is
-# checked. Nothing is taken for proved from that: it is rt ci that proves every crate, from nothing.
+# A change is tried on copies of the crates that it touches, in a repository made for it. A check keeps in a crate's out/ every module
+# that it checked; the copies begin with those, so that of an edited copy only what the edit touches is checked. Nothing is taken for
+# proved from that: it is rt ci that proves every crate, from nothing.
 
 # Replaces the one place of text $2 in file $1 by text $3; fails where there is none, or more than one.
 replace() {
@@ -42,49 +41,58 @@ beside() {
     "$@" &
 }
 
-# Proves the crates that are named, where they or what they depend on have changed since: what rt has to say is shown if it fails.
+# The crates of this repository.
+crates_listed() {
+    sed -nE 's/^([A-Za-z0-9_]+)( [a-z0-9_=]+)*:.*/\1/p' "$root/crates.txt"
+}
+
+# What crate $1 depends on.
+deps_of() {
+    sed -nE "s/^$1( [a-z0-9_=]+)*: *([^#]*).*/\2/p" "$root/crates.txt"
+}
+
+# Checks the crates that are named, or all, and what they stand on, where they have changed since they were last checked: what rt has to
+# say is shown if that fails.
 up_to_date() {
-    rt check "$@" >"$work/check.log" 2>&1 || {
+    local crate
+    if [ $# -eq 0 ]; then
+        rt all check --jobs "$(nproc)" >"$work/check.log" 2>&1
+    else
+        for crate in "$@"; do
+            (cd "crates/$crate" && rt check) || return 1
+        done >"$work/check.log" 2>&1
+    fi || {
         tail -n 20 "$work/check.log" | cut -c1-1000
         false
     }
 }
 
-# What crate $1 depends on.
-deps_of() {
-    sed -nE "s/^$1: *//p" "$root/crates.txt"
+# What crate $1 stands on, each once and after what it stands on itself; crate $1 is the last.
+copies_for() {
+    below "$1" | awk '!seen[$0]++'
 }
 
-# The name of the folder in which the prover keeps checked modules: it has it from its own build. Asked of an empty crate, below
-# folder $1.
-checked_name() {
-    mkdir -p "$1/crates/empty/src"
-    touch "$1/crates/empty/src/lib.rt"
-    echo 'empty:' >"$1/crates.txt"
-    (cd "$1" && rt dev empty) >"$1/log" 2>&1
-    ls "$1/target/inc/empty"
+below() {
+    local dep
+    for dep in $(deps_of "$1"); do
+        [ ! -d "$root/crates/$dep" ] || below "$dep"
+    done
+    echo "$1"
 }
 
-# A repository in folder $1 in which crate $2 is checked by `rt dev`. It has copies of the crates named after that, which begin with
-# what was checked of them, and is in all else this one. Its crates.txt has the one crate, with what it takes from target/rlib: the
-# rest of its dependencies is passed as source. The files of checked modules are linked: the prover replaces them and writes into none.
+# A repository in folder $1 in which crate $2 is checked, with copies of the crates named after that, itself among them. Its crates.txt
+# has that crate alone: check_in passes the other copies as source, so that the check goes on to what stands on a part of them that it
+# refuses.
 stand_in() {
-    local place=$1 top=$2 crate dep modules built=''
+    local place=$1 top=$2 crate
     shift 2
-    modules=$place/target/inc/$top/$checked
-    mkdir -p "$place/crates" "$modules"
-    ln -s "$root"/crates/* "$place/crates/"
-    ln -s "$root/target/rlib" "$place/target/rlib"
+    mkdir -p "$place/crates/$top/out/incremental"
     for crate in "$@"; do
-        rm "$place/crates/$crate"
-        mkdir "$place/crates/$crate"
+        mkdir -p "$place/crates/$crate"
         cp -R "$root/crates/$crate"/{src,specs,proofs} "$place/crates/$crate/" 2>/dev/null
-        cp -l "$root/target/rlib/$crate.rlib/toolchain/checked"/* "$modules/"
+        cp -R "$root/crates/$crate/out/incremental/." "$place/crates/$top/out/incremental/" 2>/dev/null
     done
-    for dep in $(deps_of "$top"); do
-        case " $* " in *" $dep "*) ;; *) built="$built $dep" ;; esac
-    done
-    echo "$top:$built" >"$place/crates.txt"
+    echo "$top:" >"$place/crates.txt"
 }
 
 # Where edit $2 names the example that has to refuse it, `example: NAME`, only that one of the computed examples is left in
@@ -100,12 +108,29 @@ only_example() {
         last !~ / = refl$/ || last == kept' "$file" >"$file.new" && mv "$file.new" "$file"
 }
 
-# Checks crate $2 in the repository $1, with the copies named after that passed as source.
+# Checks crate $2 in the repository $1, with the copies named after that passed as source, and all else that it stands on as it is built
+# in this repository.
 check_in() {
-    local place=$1 top=$2 crate libs=()
+    local place=$1 top=$2 crate given=()
     shift 2
-    for crate in "$@"; do
-        [ "$crate" = "$top" ] || libs+=(--lib "$crate=crates/$crate/src/lib.rt")
+    for crate in $(copies_for "$top"); do
+        case " $* " in
+        *" $crate "*) [ "$crate" = "$top" ] || given+=(--lib "$crate=../$crate/src/lib.rt") ;;
+        *)
+            given+=(-L "dependency=$root/crates/$crate/out/rlib")
+            case " $(deps_of "$top") " in *" $crate "*) given+=(--extern "$crate=$root/crates/$crate/out/rlib/$crate.rlib") ;; esac
+            ;;
+        esac
     done
-    (cd "$place" && RT_JOBS=1 rt dev "$top" "${libs[@]}")
+    (cd "$place/crates/$top" && rt check --jobs 1 "${given[@]}")
+}
+
+# A refusal that is at no fact: a name, a field or a goal that is not there, a text that cannot be read; a declaration `.._spec`, which
+# only hands the answers over; a path in the proof that leads to another place of the code.
+shape='not in scope|no field|is no name|has no |can be named|exports no|operand is missing|expected the end|cannot continue|error\[|error: `[^`]*[-_]spec`|one has `[^ `]*\.Lts\.[A-Z][^ `]*`'
+
+# The refusals in log $1, whose lines begin with what $2 matches, a place in a crate's files. Left out is what was not checked since
+# something before it was refused.
+refusals() {
+    grep -aE "^(note: )?(\./)?$2:[0-9]+:[0-9]+: (error|it is not proved)" "$1" | grep -avE 'was not admitted|(was|were) not checked'
 }

@@ -12,14 +12,14 @@ list=tests/expected.txt
 work=$(mktemp -d)
 trap 'rm -rf "$work"' EXIT
 
-# Edits where neither rt nor tests/edits.sh nor tests/spoiled.sh looks for them.
+# Edits where neither rt nor tests/spoiled.sh looks for them.
 stray_edits() {
     local edit crate
     find . \( -path ./target -o -path ./rust/target -o -name .git \) -prune -o -name '*.edit' -print | sed 's/^\.\///' | sort | while IFS= read -r edit; do
         crate=${edit#crates/}
         crate=${crate%%/*}
         case $edit in
-        "crates/$crate/must-fail/$(basename "$edit")" | "crates/$crate/must-fail/quick/$(basename "$edit")") grep -q "^$crate:" crates.txt || echo "$edit" ;;
+        "crates/$crate/must-fail/$(basename "$edit")") crates_listed | grep -qx "$crate" || echo "$edit" ;;
         "tests/spoiled/$(basename "$edit")") ;;
         *) echo "$edit" ;;
         esac
@@ -49,11 +49,16 @@ rust_tests() {
         s/^(.*): test$/\1/p' | awk '/^@/ { from = substr($0, 2); next } { print "rust " from ": " $0 }'
 }
 
+# The crates, a static library too.
+crates_listed() {
+    sed -nE 's/^([A-Za-z0-9_]+)( [a-z0-9_=]+)*:.*/\1/p' crates.txt
+}
+
 # What stands in the tree, to be run.
 in_tree() {
     local file name
-    sed -nE 's/^([A-Za-z0-9_]+):.*/crate \1/p' crates.txt
-    for file in crates/*/must-fail/*.edit crates/*/must-fail/quick/*.edit; do
+    crates_listed | sed 's/^/crate /'
+    for file in crates/*/must-fail/*.edit; do
         name=${file#crates/}
         echo "must-fail ${name%%/*}/$(basename "$file" .edit)"
     done
@@ -72,18 +77,17 @@ in_tree() {
     cargo test --offline --manifest-path rust/Cargo.toml --workspace --features compare/proved -- --list 2>&1 | rust_tests
 }
 
-# What ran and passed, by the log.
+# What ran and passed, by the log. Of a crate that it proved in an earlier run rt says that it is kept.
 ran() {
-    local name
-    sed -nE '
-        s/^rt: ([A-Za-z0-9_]+) proved \([0-9]+ s\)$/crate \1/p
-        s/^rt: must-fail ([^ ]+): refused, as it must be.*/must-fail \1/p
-        s/^refused: must-fail ([^ ]+), as it must be.*/must-fail \1/p
+    local name kept='is kept: an earlier run on this machine proved the same files over the same libraries'
+    sed -nE "
+        s/^rt: ([A-Za-z0-9_]+) (proved|$kept)\$/crate \1/p
+        s/^rt: must-fail ([^ ]+)\.edit: refused, as it must be.*/must-fail \1/p
         s/^refused: spoiled ([^ ]+), as it must be.*/spoiled \1/p
         s/^noticed after +[0-9]+ calls: ([A-Za-z0-9]+):.*/fault \1/p
-        s/^passed: (.*)/part \1/p' "$1"
-    sed -nE "s/^rt: ([A-Za-z0-9_]+) ran.*, and wrote what its file 'stdout' has.*/\1/p" "$1" | while read -r name; do program_lines "$name"; done
-    ! grep -q '^rt: rules proved (' "$1" || example_rows
+        s/^passed: (.*)/part \1/p" "$1"
+    sed -nE "s/^rt: ([A-Za-z0-9_]+) ran, and wrote what its file stdout has\$/\1/p" "$1" | while read -r name; do program_lines "$name"; done
+    ! grep -qE "^rt: rules (proved|$kept)\$" "$1" || example_rows
     rust_tests <"$1"
 }
 

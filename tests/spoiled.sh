@@ -2,39 +2,24 @@
 # Spoiled definitions. Each tests/spoiled/*.edit names a crate, a change of one of its definitions, and the crate above it
 # that must be refused for it, with the file in which the refusal has to stand: `crate:`, `file:`, `old:`, `new:` (one line
 # each, old and new in pairs), `refused:`, `at:`; where a computed example has to refuse it, `example:` with the example's name.
-#   tests/spoiled.sh         every edit, after rt ci
-#   tests/spoiled.sh NAME    one of them; what has changed is proved first
+#   tests/spoiled.sh         every edit
+#   tests/spoiled.sh NAME    one of them
 # The crates up to the refused one are copied aside, the change is made in the copy, and all that it touches is checked in one run:
 # what an example says of the change does not wait for what a law says. Where a theorem has to refuse it, `at: proofs/..`, the
 # computed examples, which take the longest, are left out.
 # The refusal has to be at a fact: a missing name or a definition that is no longer well formed does not count.
-# First the same copies are checked unedited: where they fail by themselves, that an edit is refused means nothing.
+# First the crates are checked, where they have changed since they last were, and then the same copies unedited: where they fail by
+# themselves, that an edit is refused means nothing.
 # Ends with 'N passed, M failed', a copy proved unedited or an edit refused being one passed; exits non-zero where one failed.
 set -uo pipefail
 cd "$(dirname "$0")/.."
 source tests/common.sh
 root=$PWD
-mkdir -p target
-work=$(mktemp -d "$root/target/spoiled.XXXXXX")
+work=$(mktemp -d)
 trap 'rm -rf "$work"' EXIT
-checked=$(checked_name "$work/empty")
 edits=(tests/spoiled/${1:-*}.edit)
 tops=$(sed -n 's/^refused: //p' "${edits[@]}" | sort -u)
-[ $# -eq 0 ] || up_to_date $tops || exit 1
-
-# What a crate stands on, itself last.
-below() {
-    local dep
-    for dep in $(deps_of "$1"); do
-        [ ! -d "crates/$dep" ] || below "$dep"
-    done
-    echo "$1"
-}
-
-# The same, each once.
-copies_for() {
-    below "$1" | awk '!seen[$0]++'
-}
+up_to_date $tops || exit 1
 
 # Checks the copies up to crate $1 unedited; writes the verdict to $work/CRATE.unedited.res.
 unedited() {
@@ -52,7 +37,7 @@ unedited() {
 # Leaves the computed examples out of the copy of rules in repository $1, if it has one.
 without_examples() {
     local rules=$1/crates/rules/specs
-    if [ ! -L "$1/crates/rules" ]; then
+    if [ -d "$rules" ]; then
         rm "$rules/Examples.antt"
         sed -i '/^pub mod Examples$/d' "$rules/Lib.antt"
     fi
@@ -74,13 +59,13 @@ try() {
     elif check_in "$place" "$refused" $copies >"$log" 2>&1; then
         echo "spoiled $name: NOT REFUSED by $refused" >"$place.res"
     else
-        found=$(grep -m 1 -E "crates/$refused/$at:[0-9]+:[0-9]+: error" "$log" | cut -c1-1000)
+        found=$(refusals "$log" "$at")
         if [ -z "$found" ]; then
-            echo "spoiled $name: NOT REFUSED in $refused/$at: $(tail -n 1 "$log" | cut -c1-1000)" >"$place.res"
-        elif grep -qE 'not in scope|was not admitted|no field|has no' <<<"$found"; then
-            echo "spoiled $name: BAD EDIT: refused at a name and not at a fact: $found" >"$place.res"
+            echo "spoiled $name: NOT REFUSED in $refused/$at: $(refusals "$log" '[^ ]*' | head -n 1 | cut -c1-600), $(tail -n 1 "$log" | cut -c1-400)" >"$place.res"
+        elif grep -qE "$shape" <<<"$found"; then
+            echo "spoiled $name: BAD EDIT: refused at a name and not at a fact: $(grep -m 1 -E "$shape" <<<"$found" | cut -c1-1000)" >"$place.res"
         else
-            echo "refused: spoiled $name, as it must be ($refused, $(grep -oE "$at:[0-9]+:[0-9]+" <<<"$found"))" >"$place.res"
+            echo "refused: spoiled $name, as it must be ($refused, $(grep -m 1 -oE "$at:[0-9]+:[0-9]+" <<<"$found"))" >"$place.res"
         fi
     fi
     rm -rf "$place"

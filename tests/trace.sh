@@ -11,10 +11,10 @@ trap 'rm -f "$defined" "$named"' EXIT
 # File.name for each public definition, record, data type and record field.
 for file in crates/layout/specs/*.antt crates/rules/specs/*.antt; do
     grep -vE '^pub mod ' "$file" |
-        sed -nE 's/^ *(unfoldable |abbrev )?pub (record |data )?([A-Za-z0-9·-]+) .*/\3/p' |
+        sed -nE "s/^ *(unfoldable |abbrev )?pub (record |data )?([A-Za-z0-9_'-]+) .*/\3/p" |
         sed "s/^/$(basename "$file" .antt)./"
 done | sort -u >"$defined"
-grep -oE '`[A-Z][A-Za-z0-9]+\.[A-Za-z0-9·-]+`' docs/TRACE.md | tr -d '`' | grep -v '\.antt$' | sort -u >"$named"
+grep -oE "\`[A-Z][A-Za-z0-9]+\.[A-Za-z0-9_'-]+\`" docs/TRACE.md | tr -d '`' | grep -v '\.antt$' | sort -u >"$named"
 
 missing=$(comm -23 "$defined" "$named")
 unknown=$(comm -13 "$defined" "$named")

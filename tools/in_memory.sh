@@ -1,8 +1,8 @@
 #!/bin/sh
 # Makes a folder for temporary files that lies in memory, and prints its name:
 #   tools/in_memory.sh JOBS
-# The prover copies the checked modules that a crate stands on, up to 7,000 files of 320 MB, and removes them when it is done. On a
-# disk that takes some seconds for each crate.
+# For each wrong change that is tried, a copy of its crate is made with what a check of it kept, up to 1,600 files of 80 MB, and
+# removed when that is done. On a disk that takes some seconds for each.
 # Prints nothing where TMPDIR says already where such files go, where there is no such place, or not the room in memory for so many
 # provers at once, and where programs may not be run in it.
 set -eu
