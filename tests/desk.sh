@@ -305,13 +305,14 @@ printf '%s\n' 'rt: chose --jobs 2 for base' 'logic=proved functions=1' 'rt: chos
 printf '%s\n' 'desk: proving base, 0 of 5 done' 'desk: proving middle, 1 of 5 done' >"$work/wanted"
 shows 7 top "$work/log" sh -c 'cat said; exit 7'
 
-# The same with rt's own lines, of four small crates: the right one stands lower than the left one, and comes behind it.
+# The same with rt's own lines, of four small crates: the right one stands lower than the left one, and comes behind it. The comment in
+# them is no other run's, or rt would take what that proved.
 mkdir "$work/own"
 cd "$work/own" || exit 1
 printf '%s\n' 'shown_top: shown_left shown_right' 'shown_left: shown_base' 'shown_right:' 'shown_base:' >crates.txt
 for name in base left right top; do
     mkdir -p "crates/shown_$name/src"
-    echo '// Nothing.' >"crates/shown_$name/src/lib.rt"
+    echo "// Nothing, for $work." >"crates/shown_$name/src/lib.rt"
 done
 own='cd crates/shown_top && PATH=$PATH:/opt/rattle/bin exec rt lib'
 cat >"$work/wanted" <<'END'
