@@ -98,7 +98,7 @@ stand_in() {
 # Where edit $2 names the example that has to refuse it, `example: NAME`, only that one of the computed examples is left in
 # repository $1: together they take longer than all else that an edit of a definition touches. Fails where there is none of that name.
 only_example() {
-    local name file=$1/crates/rules/specs/Examples.antt
+    local name file=$1/crates/rules/proofs/Examples.antt
     name=$(sed -n 's/^example: //p' "$2")
     [ -n "$name" ] || return 0
     grep -q "^$name = refl\$" "$file" || return 1

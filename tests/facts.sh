@@ -54,7 +54,7 @@ try() {
         echo "must-fail $name: no refusal: $(tail -n 1 "$log" | cut -c1-1000)" >"$place.res"
     elif grep -qE "$shape" <<<"$found"; then
         echo "must-fail $name: refused for its shape: $(grep -m 1 -E "$shape" <<<"$found" | cut -c1-400)" >"$place.res"
-    elif [ -n "$example" ] && ! grep -qE "^(\./)?specs/Examples\.antt:.*: error: \`$example\`" <<<"$found"; then
+    elif [ -n "$example" ] && ! grep -qE "^(\./)?proofs/Examples\.antt:.*: error: \`$example\`" <<<"$found"; then
         echo "must-fail $name: NOT REFUSED by the example $example" >"$place.res"
     else
         echo "at a fact: must-fail $name ($(head -n 1 <<<"$found" | grep -oE '[^ ]+:[0-9]+:[0-9]+' | head -n 1 | sed 's/^\.\///'))" >"$place.res"

@@ -5,8 +5,8 @@
 #   tests/spoiled.sh         every edit
 #   tests/spoiled.sh NAME    one of them
 # The crates up to the refused one are copied aside, the change is made in the copy, and all that it touches is checked in one run:
-# what an example says of the change does not wait for what a law says. Where a theorem has to refuse it, `at: proofs/..`, the
-# computed examples, which take the longest, are left out.
+# what an example says of the change does not wait for what a law says. Where a theorem has to refuse it, the computed examples
+# (`crates/rules/proofs/Examples.antt`), which take the longest, are left out.
 # The refusal has to be at a fact: a missing name or a definition that is no longer well formed does not count.
 # First the crates are checked, where they have changed since they last were, and then the same copies unedited: where they fail by
 # themselves, that an edit is refused means nothing.
@@ -36,7 +36,7 @@ unedited() {
 
 # Leaves the computed examples out of the copy of rules in repository $1, if it has one.
 without_examples() {
-    local rules=$1/crates/rules/specs
+    local rules=$1/crates/rules/proofs
     if [ -d "$rules" ]; then
         rm "$rules/Examples.antt"
         sed -i '/^pub mod Examples$/d' "$rules/Lib.antt"
@@ -53,7 +53,7 @@ try() {
     at=$(sed -n 's/^at: //p' "$edit")
     copies=$(copies_for "$refused")
     stand_in "$place" "$refused" $copies
-    case $at in proofs/*) without_examples "$place" ;; esac
+    [ "$at" = proofs/Examples.antt ] || without_examples "$place"
     if ! only_example "$place" "$edit" || ! apply "$edit" "$place/crates"; then
         echo "spoiled $name: BAD EDIT: an old text is not in its file exactly once, or there is no such example" >"$place.res"
     elif check_in "$place" "$refused" $copies >"$log" 2>&1; then
