@@ -31,7 +31,7 @@ example_rows() {
     awk '
         FNR == 1 { name = FILENAME; sub(/.*\//, "", name); sub(/\.antt$/, "", name); label = "" }
         /^ *-- / { label = $0; sub(/^ *-- /, "", label); sub(/\..*/, "", label) }
-        /^ +(∷ )?(row|yes|no) / { print "example " name ": " label }' crates/rules/proofs/Examples.antt
+        /^ +(∷ )?(row|yes|no) / { print "example " name ": " label }' crates/rules/specs/*.antt
 }
 
 # A program, with the number of lines that its output is held to.

@@ -1,6 +1,7 @@
 #!/usr/bin/env bash
-# docs/TRACE.md names every definition and every field of the two crates of rules and of their computed examples, and nothing that
-# is not there; and what it quotes stands in document 01 or 02, which are compared where the papers lie beside the repository.
+# docs/TRACE.md names every definition and every field of the two crates of rules, and nothing that is not there; and what it
+# quotes stands in document 01 or 02, which are compared where the papers lie beside the repository. Of the computed examples it
+# names what a row is made of; the tables themselves, and what only spells them shorter, are open to the proofs alone.
 set -uo pipefail
 cd "$(dirname "$0")/.."
 papers=../shared/papers
@@ -9,8 +10,9 @@ named=$(mktemp)
 trap 'rm -f "$defined" "$named"' EXIT
 
 # File.name for each public definition, record, data type and record field.
-for file in crates/layout/specs/*.antt crates/rules/specs/*.antt crates/rules/proofs/Examples.antt; do
-    grep -vE '^pub mod ' "$file" |
+for file in crates/layout/specs/*.antt crates/rules/specs/*.antt; do
+    case $file in */Examples.antt) passed='^unfoldable ' ;; *) passed='^pub mod ' ;; esac
+    grep -vE "$passed" "$file" |
         sed -nE "s/^ *(unfoldable |abbrev )?pub (record |data )?([A-Za-z0-9_'-]+) .*/\3/p" |
         sed "s/^/$(basename "$file" .antt)./"
 done | sort -u >"$defined"
