@@ -24,7 +24,9 @@ pub extern "C" fn dos_cio(
     ensures { let o = cio_leaves image.old table.old (block notch channel command direction) name.now buffer.old in
         (result ≡ o.result) × (image.new ≡ o.image) × (table.new ≡ o.table) × (buffer.new ≡ o.buffer) }
 {
-    capi::dos_cio(image, table, notch, channel, command, direction, name, buffer)
+    capi::dos_cio(
+        image, table, notch, channel, command, direction, name, buffer,
+    )
 }
 
 // Recovery of the deleted file of a slot.
