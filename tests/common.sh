@@ -129,6 +129,11 @@ check_in() {
 # only hands the answers over; a path in the proof that leads to another place of the code.
 shape='not in scope|no field|is no name|has no |can be named|exports no|operand is missing|expected the end|cannot continue|error\[|error: `[^`]*[-_]spec`|one has `[^ `]*\.Lts\.[A-Z][^ `]*`'
 
+# Those of the refusals $1 that are at no fact. What a tactic says of the goal that it has not proved may have any words in it.
+at_no_fact() {
+    grep -vE ': error: `[^`]*`: `(omega|search|grind)`: ' <<<"$1" | grep -E "$shape"
+}
+
 # The refusals in log $1, whose lines begin with what $2 matches, a place in a crate's files. Left out is what was not checked since
 # something before it was refused.
 refusals() {

@@ -52,8 +52,8 @@ try() {
         echo "must-fail $name: BAD EDIT: it did not reach the prover: $(tail -n 1 "$log" | cut -c1-1000)" >"$place.res"
     elif ! found=$(refusals "$log" '[^ ]*'); then
         echo "must-fail $name: no refusal: $(tail -n 1 "$log" | cut -c1-1000)" >"$place.res"
-    elif grep -qE "$shape" <<<"$found"; then
-        echo "must-fail $name: refused for its shape: $(grep -m 1 -E "$shape" <<<"$found" | cut -c1-400)" >"$place.res"
+    elif at_no_fact "$found" >/dev/null; then
+        echo "must-fail $name: refused for its shape: $(at_no_fact "$found" | head -n 1 | cut -c1-400)" >"$place.res"
     elif [ -n "$example" ] && ! grep -qE "^(\./)?proofs/Examples\.antt:.*: error: \`$example\`" <<<"$found"; then
         echo "must-fail $name: NOT REFUSED by the example $example" >"$place.res"
     else

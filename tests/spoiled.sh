@@ -62,8 +62,8 @@ try() {
         found=$(refusals "$log" "$at")
         if [ -z "$found" ]; then
             echo "spoiled $name: NOT REFUSED in $refused/$at: $(refusals "$log" '[^ ]*' | head -n 1 | cut -c1-600), $(tail -n 1 "$log" | cut -c1-400)" >"$place.res"
-        elif grep -qE "$shape" <<<"$found"; then
-            echo "spoiled $name: BAD EDIT: refused at a name and not at a fact: $(grep -m 1 -E "$shape" <<<"$found" | cut -c1-1000)" >"$place.res"
+        elif at_no_fact "$found" >/dev/null; then
+            echo "spoiled $name: BAD EDIT: refused at a name and not at a fact: $(at_no_fact "$found" | head -n 1 | cut -c1-1000)" >"$place.res"
         else
             echo "refused: spoiled $name, as it must be ($refused, $(grep -m 1 -oE "$at:[0-9]+:[0-9]+" <<<"$found"))" >"$place.res"
         fi
