@@ -1,11 +1,12 @@
 // The command of each number.
 ghost use Rattle.std.specs.Prelude.{◌≡◌};
-ghost use Rattle.rules.specs.Cio.{command_of, command_status, TellsCommand};
+ghost use Rattle.rules.specs.Cio.{command_of, TellsCommand};
 
 use layout::status;
 use rules::{Command, FileCommand, Form, Transfer};
 
 // What a command number asks for: 132 for 0 to 2, 168 for any other not listed.
+#[tactic(auto, unfolding(rules::specs::Cio::command_of, layout::specs::Basics::check))]
 pub fn command_of(n: u8) -> Command
     ensures { TellsCommand (command_of n) result }
 {
@@ -24,17 +25,5 @@ pub fn command_of(n: u8) -> Command
         254 => Command::Files(FileCommand::Format),
         0..=2 => Command::Unlisted(status::BAD_COMMAND),
         _ => Command::Unlisted(status::NOT_SERVED),
-    }
-}
-
-// The number of each case.
-pub fn command_status(k: Command) -> u8
-    ensures { result ≡ command_status k }
-{
-    match k {
-        Command::Moves(_) => status::SUCCESS,
-        Command::Close => status::SUCCESS,
-        Command::Files(_) => status::SUCCESS,
-        Command::Unlisted(n) => n,
     }
 }

@@ -2,11 +2,10 @@
 use mathlib.Core.Bool.{true, false, not}
 use mathlib.Core.List.{List, []}
 use mathlib.Core.Path.{◌≡◌, refl, ap, ◌∙◌}
-use Prim.Native.Nat.{ℕ, ◌*◌}
-use lib.ListN.{drop, take-append-drop}
+use Prim.Native.Nat.{ℕ}
 use Rattle.layout.specs.declared.State.{State}
 use Rattle.layout.specs.declared.density.Medium.{Medium}
-use Rattle.layout.specs.declared.Served.TheVariants.{As, Not}
+use Rattle.std.specs.Prelude.{Ok, Err}
 use Rattle.layout.specs.Image.{Disk, Geometry, geometry_of, view}
 use Rattle.layout.specs.Header.{served_as}
 use Rattle.layout.specs.Channels.{channel}
@@ -19,14 +18,9 @@ use Rattle.rules.specs.Put.{sent, put_keeps, put_on}
 use Rattle.rules.proofs.Sent.{none-reported}
 use Rattle.rules.specs.Thin.{ImagePutOutcome, write_lent}
 use Rattle.words.specs.Result.{result_of, malformed}
-use Rattle.words.specs.Words.{is_channel, state_in, channel_at, with_channel}
+use Rattle.words.specs.Words.{is_channel, state_in}
 use Rattle.words.proofs.Channels.{record_keeps}
 use Rattle.capi.specs.Leaves.{PutLeaves, put_words, write_leaves}
-
--- a table with a record of its own in that record's place
-pub own_record : (ws : List ℕ) (c : ℕ) → with_channel ws c (channel_at ws c) ≡ ws
-unfolding with_channel channel_at
-own_record ws c = rw (take-append-drop 5 (drop (5 * c) ws)) (take-append-drop (5 * c) ws)
 
 module _ (l ws : List ℕ) (f : Form) (b : List ℕ) where
   -- this result, and all that was lent as it was
@@ -43,12 +37,12 @@ module _ (l ws : List ℕ) (f : Form) (b : List ℕ) where
     unfolding write_leaves
     kept n e = check_no {A = PutLeaves} _ _ _ (ap not good) ∙ ap (put_words ws) e ∙ ap (λ w. record { result = result_of n 0; image = l; channel = w }) (record_keeps ws (state_in ws) refl)
 
-    pub not_served_lem : (n : ℕ) → served_as l ≡ Not n → write_leaves f l true ws b ≡ stays (result_of n 0)
+    pub not_served_lem : (n : ℕ) → served_as l ≡ Err n → write_leaves f l true ws b ≡ stays (result_of n 0)
     unfolding write_lent
     not_served_lem n q = kept n (served_not {A = ImagePutOutcome} _ _ _ q)
 
     -- what a put answers there, by the state that the words say
-    pub served-closed : {m : Medium} {st : State} {n : ℕ} → served_as l ≡ As m → st ≡ state_in ws → ((g : Geometry) (d : Disk) (b : List ℕ) → put_on g d true st b ≡ put_keeps n d st) → write_leaves f l true ws b ≡ stays (result_of n 0)
+    pub served-closed : {m : Medium} {st : State} {n : ℕ} → served_as l ≡ Ok m → st ≡ state_in ws → ((g : Geometry) (d : Disk) (b : List ℕ) → put_on g d true st b ≡ put_keeps n d st) → write_leaves f l true ws b ≡ stays (result_of n 0)
     unfolding write_lent
     served-closed {m = m} {n = n} q e h =
         let g = geometry_of m in

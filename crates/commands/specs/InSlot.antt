@@ -1,9 +1,7 @@
 -- The slot of a target is one of the 64.
-use Rattle.std.specs.Prelude.{◌<◌}
-use Rattle.rules.specs.declared.Target.{Target}
-use Rattle.rules.specs.declared.Target.TheVariants.{Slot, Missing, Denied}
+use Rattle.std.specs.Prelude.{ℕ, ◌<◌, Result, Ok, Err}
+use Rattle.rules.specs.declared.Unfound.{Unfound}
 
-abbrev pub InSlot : Target → Type 0
-InSlot (Slot s) = s < 64
-InSlot (Missing word extension) = Unit {0}
-InSlot (Denied status) = Unit {0}
+abbrev pub InSlot : Result ℕ Unfound → Type 0
+InSlot (Ok s) = s < 64
+InSlot (Err u) = Unit {0}

@@ -1,8 +1,9 @@
 // The file of a name: found, found to be changed, and whether it may be.
 ghost use Rattle.std.specs.Prelude.{◌≡◌, ◌<◌};
-ghost use Rattle.layout.specs.Image.{Whole, geometry_of, view};
+ghost use Rattle.layout.specs.Image.{Whole, geometry_of, disk};
 ghost use Rattle.layout.specs.Names.{read_name};
-ghost use Rattle.rules.specs.Commands.{sought, target, target_status, TellsTarget, may_change, may_free};
+ghost use Rattle.layout.specs.Status.{verdict};
+ghost use Rattle.rules.specs.Commands.{sought, target, TellsTarget, may_change, may_free};
 ghost use Rattle.commands.specs.InSlot.{InSlot};
 
 use channels::slots::held;
@@ -11,92 +12,67 @@ use directory::flags::locked;
 use files::chain::clean;
 use image::slot::flag;
 use layout::density::Medium;
-use layout::{Found, Name, Table, status};
-use names::{name_status, read_name};
-use rules::Target;
+use layout::status::{self, Status};
+use layout::{FileName, Table};
+use names::read_name;
+use rules::Unfound;
 use volume::table::table_good;
 
 // The name's refusal, then the slot found, or the name that no file has.
-pub fn find_file(m: Medium, image: &[u8], n: Name) -> Target
+#[tactic(auto, unfolding(rules::specs::Commands::sought, layout::specs::Directory::found))]
+pub fn find_file(m: Medium, image: &[u8], n: Result<FileName, Status>) -> Result<u16, Unfound>
     requires { Whole m image.now }
-    ensures { TellsTarget (sought (view (geometry_of m) image.now) n) result × InSlot result }
+    ensures { TellsTarget (sought (disk m image.now) n) result × InSlot result }
 {
-    let Name::Is { name, extension } = n else {
-        return Target::Denied(name_status(n));
-    };
-    let f = find(m, image, name, extension);
-    let Found::At(s) = f else {
-        return Target::Missing { name, extension };
-    };
-    Target::Slot(s)
+    let f = n?;
+    find(m, image, f.name, f.extension).ok_or(Unfound::Missing(f))
 }
 
 // The file that a command is to change: 163 stands before the search.
-pub fn find_target(m: Medium, image: &[u8], n: Name) -> Target
+#[tactic(auto, unfolding(rules::specs::Commands::target, layout::specs::Basics::check))]
+pub fn find_target(m: Medium, image: &[u8], n: Result<FileName, Status>) -> Result<u16, Unfound>
     requires { Whole m image.now }
-    ensures { TellsTarget (target (view (geometry_of m) image.now) n) result × InSlot result }
+    ensures { TellsTarget (target (disk m image.now) n) result × InSlot result }
 {
-    match n {
-        Name::Is {
-            name: _,
-            extension: _,
-        } => {
-            if !table_good(m, image) {
-                return Target::Denied(status::BAD_TABLE);
-            }
-            find_file(m, image, n)
-        }
-        Name::Refused(status) => Target::Denied(status),
+    let f = n?;
+    if !table_good(m, image) {
+        return Err(Unfound::Denied(status::BAD_TABLE));
     }
+    find_file(m, image, Ok(f))
 }
 
 // The file that a command is to change, by the name in its text.
-pub fn find_named(m: Medium, image: &[u8], text: &[u8]) -> Target
+pub fn find_named(m: Medium, image: &[u8], text: &[u8]) -> Result<u16, Unfound>
     requires { Whole m image.now }
-    ensures { TellsTarget (target (view (geometry_of m) image.now) (read_name text.now)) result × InSlot result }
+    ensures { TellsTarget (target (disk m image.now) (read_name text.now)) result × InSlot result }
 {
     find_target(m, image, read_name(text))
 }
 
-// The number of each case.
-pub fn target_status(a: Target) -> u8
-    ensures { result ≡ target_status a }
-{
-    match a {
-        Target::Slot(_) => status::SUCCESS,
-        Target::Missing {
-            name: _,
-            extension: _,
-        } => status::NOT_FOUND,
-        Target::Denied(n) => n,
-    }
-}
-
-// Whether the file in slot s may be changed: 167, 200, or 1.
-pub fn may_change(m: Medium, image: &[u8], t: Table, s: u16) -> u8
+// Whether the file in slot s may be changed: 167 or 200 where not.
+#[tactic(auto, unfolding(rules::specs::Commands::may_change, layout::specs::Basics::check))]
+pub fn may_change(m: Medium, image: &[u8], t: Table, s: u16) -> Result<(), Status>
     requires { Whole m image.now × (s < 64) }
-    ensures { result ≡ may_change (view (geometry_of m) image.now) t s }
+    ensures { result ≡ verdict (may_change (disk m image.now) t s) }
 {
     if locked(flag(m, image, s)) {
-        return status::FILE_LOCKED;
+        return Err(status::FILE_LOCKED);
     }
     if held(m, image, t, s) {
-        return status::FILE_HELD;
+        return Err(status::FILE_HELD);
     }
-    status::SUCCESS
+    Ok(())
 }
 
 // Whether its chain may be freed too: 164 behind them.
-pub fn may_free(m: Medium, image: &[u8], t: Table, s: u16) -> u8
+#[tactic(auto, unfolding(rules::specs::Commands::may_free, rules::specs::Commands::passing, layout::specs::Basics::check))]
+pub fn may_free(m: Medium, image: &[u8], t: Table, s: u16) -> Result<(), Status>
     requires { Whole m image.now × (s < 64) }
-    ensures { result ≡ may_free (geometry_of m) (view (geometry_of m) image.now) t s }
+    ensures { result ≡ verdict (may_free (geometry_of m) (disk m image.now) t s) }
 {
-    let n = may_change(m, image, t, s);
-    if n != status::SUCCESS {
-        return n;
-    }
+    may_change(m, image, t, s)?;
     if !clean(m, image, s) {
-        return status::BAD_CHAIN;
+        return Err(status::BAD_CHAIN);
     }
-    status::SUCCESS
+    Ok(())
 }

@@ -1,9 +1,8 @@
-// What the orders are made of: calls on channel 0, files made, and what is printed.
-ghost use Rattle.std.specs.Prelude.{◌≡◌, ◌≤◌, length};
+// What the orders are made of: calls on channel 0, files made, and sectors read.
+ghost use Rattle.std.specs.Prelude.{◌≡◌, length};
 
-use capi::dos_cio;
-use layout::status::SUCCESS;
-use std::io;
+use super::told::Told;
+use capi::{dos_cio, dos_sector};
 
 // The most bytes that are put at once: all that a disk of double density has room for.
 const MOST: usize = 178871;
@@ -11,27 +10,23 @@ const MOST: usize = 178871;
 // The examples are of disks whose notch is open.
 pub const NOTCH_OPEN: u8 = 0;
 
-// A number.
-pub fn number(rt: &impl Print, n: u64) -> io::Result<()> {
-    print!(rt; "{n}")
-}
+// Commands of a CIO call by number, and the direction in which a file is written.
+const OPEN: u8 = 3;
 
-// The status of a result.
-pub fn status(rt: &impl Print, res: u64) -> io::Result<()> {
-    number(rt, res % 256)
-}
+const GET: u8 = 7;
 
-// Status and count of a result.
-pub fn answer(rt: &impl Print, res: u64) -> io::Result<()> {
-    status(rt, res)?;
-    print!(rt; " with ")?;
-    number(rt, res / 256)
-}
+const PUT: u8 = 11;
 
-// A byte's two digits in base 16.
-pub fn hex(rt: &impl Print, b: u8) -> io::Result<()> {
-    print!(rt; "{b:02x}")
-}
+const CLOSE: u8 = 12;
+
+const WRITE: u8 = 8;
+
+// The command of a sector call that reads, and the one device and unit.
+const READ_SECTOR: u8 = 0x52;
+
+const DEVICE: u8 = 0x31;
+
+const UNIT: u8 = 1;
 
 // A CIO call on channel 0 that moves no bytes.
 pub fn call(
@@ -40,23 +35,22 @@ pub fn call(
     command: u8,
     direction: u8,
     text: &[u8],
-) -> u64 {
-    let mut none = [0u8; 0];
-    dos_cio(
-        image, words, NOTCH_OPEN, 0, command, direction, text, &mut none,
-    )
+) -> Told {
+    Told::from(dos_cio(
+        image,
+        words,
+        NOTCH_OPEN,
+        0,
+        command,
+        direction,
+        text,
+        &mut [],
+    ))
 }
 
-// A get of n bytes on channel 0: status and count, and the buffer's first three bytes.
-pub fn get(rt: &impl Print, image: &mut [u8], words: &mut [u16; 40], n: usize) -> io::Result<()>
-    requires { n ≤ 256 }
-{
-    let mut bytes = [b'-'; 256];
-    answer(
-        rt,
-        dos_cio(image, words, NOTCH_OPEN, 0, 7, 0, b"", &mut bytes[0..n]),
-    )?;
-    rt.write_all(&[b' ', bytes[0], bytes[1], bytes[2]])
+// A get on channel 0 that fills the buffer.
+pub fn get(image: &mut [u8], words: &mut [u16; 40], buffer: &mut [u8]) -> Told {
+    Told::from(dos_cio(image, words, NOTCH_OPEN, 0, GET, 0, b"", buffer))
 }
 
 // So many letters. From a function of its own an array is known by its length alone; what is proved of one that is written out takes time for each byte.
@@ -66,51 +60,42 @@ fn letters() -> [u8; MOST]
     [b'X'; MOST]
 }
 
-// A put of n bytes on channel 0, which begin XYZ.
-pub fn put(image: &mut [u8], words: &mut [u16; 40], n: usize) -> u64 {
+// A put of n bytes on channel 0, which begin XYZ. More than the most are not put, and a status of 0 tells it.
+pub fn put(image: &mut [u8], words: &mut [u16; 40], n: usize) -> Told {
     if MOST < n {
-        return 0;
+        return Told::from(0);
     }
     let mut bytes = letters();
     bytes[1] = b'Y';
     bytes[2] = b'Z';
-    dos_cio(image, words, NOTCH_OPEN, 0, 11, 0, b"", &mut bytes[0..n])
+    let text = &mut bytes[..n];
+    Told::from(dos_cio(image, words, NOTCH_OPEN, 0, PUT, 0, b"", text))
 }
 
-// A result whose status is success.
-fn succeeded(res: u64) -> bool {
-    res % 256 == SUCCESS as u64
-}
-
-// The first of three results that is no success, or the last.
-fn first_refusal(a: u64, b: u64, c: u64) -> u64 {
-    if !succeeded(a) {
-        return a;
-    }
-    if !succeeded(b) {
-        return b;
-    }
-    c
-}
-
-// A file made of so many bytes: the first result of open, put and close that is no success, or the last.
-pub fn make(image: &mut [u8], text: &[u8], n: usize) -> u64 {
+// A file made of so many bytes: the first of what open, put and close tell that is no success, or the last.
+pub fn make(image: &mut [u8], text: &[u8], n: usize) -> Told {
     let mut words = [0u16; 40];
-    let opened = call(image, &mut words, 3, 8, text);
+    let opened = call(image, &mut words, OPEN, WRITE, text);
     let written = put(image, &mut words, n);
-    let closed = call(image, &mut words, 12, 0, text);
-    first_refusal(opened, written, closed)
+    let closed = call(image, &mut words, CLOSE, 0, text);
+    [opened, written]
+        .into_iter()
+        .find(|told| !told.succeeded())
+        .unwrap_or(closed)
 }
 
 // Files of one byte, up to 64: how many were made.
 pub fn fill_directory(image: &mut [u8]) -> u8 {
-    let mut i: u8 = 0;
-    while i < 64 {
+    for i in 0..64 {
         let text = [b'D', b':', b'A' + i / 8, b'A' + i % 8, 0x9B];
-        if !succeeded(make(image, &text, 1)) {
+        if !make(image, &text, 1).succeeded() {
             return i;
         }
-        i += 1;
     }
-    i
+    64
+}
+
+// A sector read, as many bytes as the buffer has.
+pub fn read(image: &mut [u8], sector: u16, buffer: &mut [u8]) -> Told {
+    Told::from(dos_sector(image, NOTCH_OPEN, DEVICE, UNIT, READ_SECTOR, sector, buffer))
 }

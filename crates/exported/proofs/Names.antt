@@ -4,8 +4,8 @@ use mathlib.Core.List.{List}
 use mathlib.Core.Path.{◌≡◌, refl, sym, ap}
 use Prim.Native.Nat.{ℕ, ◌/◌, ◌%◌}
 use native.Mathlib.Omega.{arith}
-use Rattle.layout.specs.declared.Name.{Name}
-use Rattle.layout.specs.declared.Name.TheVariants.{Is, Refused}
+use Rattle.std.specs.Prelude.{Result, Ok, Err}
+use Rattle.layout.specs.declared.FileName.{FileName}
 use Rattle.layout.specs.Names.{read_name, whole_end, body, ending, name_status, parsed, parse_name}
 use Rattle.layout.specs.Status.{success, succeeds, Succeeds, Fails}
 use Rattle.layout.proofs.Check.{by_check}
@@ -27,9 +27,9 @@ tells text b = by_check (λ (o : NameLeaves). Tells text o.result) _ _ _ (λ _. 
     p : ℕ
     p = whole_end text (body text)
 
-    go : (n : Name) → read_name text ≡ n → let q = parsed n p in Tells text (result_of (name_status q.name) q.place)
-    go (Is word extension) e = let z : result_of success p / 256 ≡ p = omega arith in ((λ _. rw z (first-ending text word extension e)), (λ h. absurd (let y : result_of success p % 256 ≡ success = omega arith in h (ap succeeds y))))
-    go (Refused n) e = by_read (λ x. Tells text (result_of x 0)) ((λ e. absurd (true≢false (sym e))), (λ _. omega arith)) ((λ e. absurd (true≢false (sym e))), (λ _. omega arith)) ((λ e. absurd (true≢false (sym e))), (λ _. omega arith)) ending text n e
+    go : (n : Result FileName ℕ) → read_name text ≡ n → let q = parsed n p in Tells text (result_of (name_status q.name) q.place)
+    go (Ok f) e = let z : result_of success p / 256 ≡ p = omega arith in ((λ _. rw z (first-ending text f.name f.extension e)), (λ h. absurd (let y : result_of success p % 256 ≡ success = omega arith in h (ap succeeds y))))
+    go (Err n) e = by_read (λ x. Tells text (result_of x 0)) ((λ e. absurd (true≢false (sym e))), (λ _. omega arith)) ((λ e. absurd (true≢false (sym e))), (λ _. omega arith)) ((λ e. absurd (true≢false (sym e))), (λ _. omega arith)) ending text n e
 
 pub name-places : NamePlaces
 name-places = record { place = λ text b. (tells text b).0; none = λ text b. (tells text b).1 }

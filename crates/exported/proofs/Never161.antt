@@ -4,8 +4,8 @@ use mathlib.Core.List.{List}
 use mathlib.Core.Path.{◌≡◌, refl}
 use Prim.Native.Nat.{ℕ, ◌+◌, ◌*◌}
 use native.Mathlib.Omega.{arith}
-use Rattle.layout.specs.declared.Name.{Name}
-use Rattle.layout.specs.declared.Name.TheVariants.{Is, Refused}
+use Rattle.std.specs.Prelude.{Result, Ok, Err}
+use Rattle.layout.specs.declared.FileName.{FileName}
 use Rattle.layout.specs.Basics.{if, member}
 use Rattle.layout.specs.Names.{read_name, whole_end, body, ending, name_status, parsed, parse_name}
 use Rattle.layout.proofs.Check.{by_check}
@@ -43,9 +43,9 @@ name-result : (text b : List ℕ) → Not161 (name_leaves text b).result
 unfolding name_leaves parse_name read_name
 name-result text b = by_check (λ (o : NameLeaves). Not161 o.result) _ _ _ (λ _ e. omega arith) λ _. go (read_name text) refl
   where
-    go : (x : Name) → read_name text ≡ x → let p = parsed x (whole_end text (body text)) in Not161 (result_of (name_status p.name) p.place)
-    go (Is word extension) e = λ q. omega arith
-    go (Refused n) e = by_read (λ x. Not161 (result_of x 0)) (λ q. omega arith) (λ q. omega arith) (λ q. omega arith) ending text n e
+    go : (x : Result FileName ℕ) → read_name text ≡ x → let p = parsed x (whole_end text (body text)) in Not161 (result_of (name_status p.name) p.place)
+    go (Ok f) e = λ q. omega arith
+    go (Err n) e = by_read (λ x. Not161 (result_of x 0)) (λ q. omega arith) (λ q. omega arith) (λ q. omega arith) ending text n e
 
 pub results_never161 : ResultsNever161
 unfolding cio_leaves read_leaves write_leaves

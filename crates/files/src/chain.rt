@@ -1,6 +1,8 @@
 // Whether a slot's chain is clean. A walk is safe on any chain: a sector is entered only if it fits, and at most 707 are.
+#![tactic(auto, using(crate::proofs::Walks::test_steps), unfolding(layout::specs::File::fits, layout::specs::File::belongs, layout::specs::File::clean_as))]
+
 ghost use Rattle.std.specs.Prelude.{◌≡◌, ◌+◌, ◌-◌, ◌≤◌, ◌<◌};
-ghost use Rattle.layout.specs.Image.{Whole, geometry_of, view};
+ghost use Rattle.layout.specs.Image.{Whole, geometry_of, disk};
 ghost use Rattle.layout.specs.File.{fits, belongs, clean_from, clean_as, clean, clean_free};
 
 use bits::data_sector;
@@ -12,18 +14,18 @@ use volume::map::is_free;
 // What a chain asks of its sector: a data sector that carries the slot number and holds no more bytes than a file sector's data.
 pub fn fits(m: Medium, image: &[u8], slot: u16, sector: u16) -> bool
     requires { Whole m image.now }
-    ensures { result ≡ fits (geometry_of m) (view (geometry_of m) image.now sector) slot sector }
+    ensures { result ≡ fits (geometry_of m) (disk m image.now sector) slot sector }
 {
     if !data_sector(sector) {
         return false;
     }
-    (owner(m, image, sector) == slot) & (in_use(m, image, sector) as usize <= m.density.room)
+    (owner(m, image, sector) == slot) & (usize::from(in_use(m, image, sector)) <= m.density.room)
 }
 
-// And it is marked used, or free where `freed` says so.
+// And it is marked used, or free where `freed` says so: the rules' `belongs` and `clean_as` have that flag too, and it is compared, so no step is chosen by it.
 fn belongs(m: Medium, image: &[u8], freed: bool, slot: u16, sector: u16) -> bool
     requires { Whole m image.now }
-    ensures { result ≡ belongs (geometry_of m) freed (view (geometry_of m) image.now) slot sector }
+    ensures { result ≡ belongs (geometry_of m) freed (disk m image.now) slot sector }
 {
     if !fits(m, image, slot, sector) {
         return false;
@@ -36,10 +38,9 @@ fn belongs(m: Medium, image: &[u8], freed: bool, slot: u16, sector: u16) -> bool
 fn clean_run(m: Medium, image: &[u8], freed: bool, slot: u16, n: u16, start: u16) -> u16
     requires { Whole m image.now }
     ensures { (result ≤ n) × (start + result < 65536)
-        × (clean_from (geometry_of m) freed (view (geometry_of m) image.now) slot n start ≡ clean_from (geometry_of m) freed (view (geometry_of m) image.now) slot (n - result) (start + result)) }
+        × (clean_from (geometry_of m) freed (disk m image.now) slot n start ≡ clean_from (geometry_of m) freed (disk m image.now) slot (n - result) (start + result)) }
 {
-    let mut j: u16 = 0;
-    while j < n {
+    for j in 0..n {
         let sector = start + j;
         if !belongs(m, image, freed, slot, sector) {
             return j;
@@ -47,15 +48,15 @@ fn clean_run(m: Medium, image: &[u8], freed: bool, slot: u16, n: u16, start: u16
         if next(m, image, sector) != sector + 1 {
             return j;
         }
-        j += 1;
     }
-    j
+    n
 }
 
 // `n` steps meet only such sectors, and lead to next sector 0. Where a link leads to the sector after it on the disk, as most do, `clean_run` walks on from there.
+// A `while`, since a turn goes on by as many sectors as the run has.
 fn clean_from(m: Medium, image: &[u8], freed: bool, slot: u16, n: u16, start: u16) -> bool
     requires { Whole m image.now }
-    ensures { result ≡ clean_from (geometry_of m) freed (view (geometry_of m) image.now) slot n start }
+    ensures { result ≡ clean_from (geometry_of m) freed (disk m image.now) slot n start }
 {
     let mut k = start;
     let mut i: u16 = 0;
@@ -79,21 +80,18 @@ fn clean_from(m: Medium, image: &[u8], freed: bool, slot: u16, n: u16, start: u1
 // The slot's count is 1 to 707, and its chain passes.
 fn clean_as(m: Medium, image: &[u8], freed: bool, slot: u16) -> bool
     requires { Whole m image.now × (slot < 64) }
-    ensures { result ≡ clean_as (geometry_of m) freed (view (geometry_of m) image.now) slot }
+    ensures { result ≡ clean_as (geometry_of m) freed (disk m image.now) slot }
 {
-    let n = count(m, image, slot);
-    let within = (1 <= n) & (n <= 707);
-    if !within {
-        return false;
+    match count(m, image, slot) {
+        n @ 1..=707 => clean_from(m, image, freed, slot, n, first(m, image, slot)),
+        _ => false,
     }
-    let start = first(m, image, slot);
-    clean_from(m, image, freed, slot, n, start)
 }
 
 // A slot's chain is clean.
 pub fn clean(m: Medium, image: &[u8], slot: u16) -> bool
     requires { Whole m image.now × (slot < 64) }
-    ensures { result ≡ clean (geometry_of m) (view (geometry_of m) image.now) slot }
+    ensures { result ≡ clean (geometry_of m) (disk m image.now) slot }
 {
     clean_as(m, image, false, slot)
 }
@@ -101,7 +99,7 @@ pub fn clean(m: Medium, image: &[u8], slot: u16) -> bool
 // Clean in every respect but that its sectors must be free.
 pub fn clean_free(m: Medium, image: &[u8], slot: u16) -> bool
     requires { Whole m image.now × (slot < 64) }
-    ensures { result ≡ clean_free (geometry_of m) (view (geometry_of m) image.now) slot }
+    ensures { result ≡ clean_free (geometry_of m) (disk m image.now) slot }
 {
     clean_as(m, image, true, slot)
 }

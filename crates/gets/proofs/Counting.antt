@@ -17,7 +17,7 @@ use Rattle.layout.specs.File.{owner, next, in_use, fits}
 use Rattle.layout.proofs.Logic.{and_left, and_right, and_no}
 use Rattle.layout.proofs.Data.{data_cases, data_facts}
 use Rattle.gets.specs.declared.whole.Filled.{Filled}
-use Rattle.gets.specs.Entered.{full, leads_on, Consecutive, Fills}
+use Rattle.gets.specs.Entered.{full, leads_on, Consecutive, DataBehind, Fills}
 use Rattle.gets.proofs.Getting.{comes_start, gets-full}
 
 -- the second run of data sectors begins behind the directory
@@ -27,6 +27,10 @@ high-least k e h = go (data_cases k e)
     go : ((4 ≤ k) × (k ≤ 359)) ⊎ ((369 ≤ k) × (k ≤ 719)) → 369 ≤ k
     go (inl a) = absurd (omega arith)
     go (inr a) = a.0
+
+-- a sector that is reached by counting
+pub behind_data : (k n j : ℕ) → DataBehind k n → k ≤ j → j < k + n → data_sector (j + 1) ≡ true
+behind_data k n j b a h = let e : k + 1 + (j - k) ≡ j + 1 = omega arith in rw e at (b.each (j - k) (omega arith))
 
 -- slot number and next sector compared at once: o and n with s and t
 both_test : (o n u s t r : ℕ) → n < 1024 → t < 1024 → (eqb (o * 1024 + n) (s * 1024 + t) && eqb u r) ≡ (eqb o s && leb u r && eqb u r && eqb n t)

@@ -10,7 +10,7 @@ use Rattle.rules.specs.declared.Form.{Form}
 use Rattle.rules.specs.declared.Form.TheVariants.{Characters}
 use Rattle.rules.specs.declared.Place.{Place}
 use Rattle.rules.specs.declared.Got.{Got}
-use Rattle.rules.specs.Get.{Reads, advanced, reads, get_from, fill, gets, or_end_reached, tells_end}
+use Rattle.rules.specs.Get.{Reads, reads, get_from, fill, or_end_reached}
 use Rattle.rules.proofs.Steps.{fill_place}
 use Rattle.gets.specs.Entered.{Entered, told_end}
 use Rattle.gets.proofs.Seeking.{fits_entered}
@@ -28,8 +28,3 @@ module _ (g : Geometry) (d : Disk) (s : ℕ) (b : List ℕ) where
   -- all bytes that were wanted, and the place behind them
   pub told_all : {z : Reads} {i n : ℕ} {p : Place} {c : List ℕ} → z ≡ reads success i p c → n ≡ or_end_reached g d b (Reading s p.sector p.offset p.left) success → record { status = n; count = i; place = p } ≡ told_end g d s b z.got
   told_all e q = rw (e, q)
-
-  -- what is told of the bytes read is the get's answer
-  pub told-answer : (f : Form) (p : Place) {r : Got} → r ≡ told_end g d s b (fill g f d s p b).got → advanced r.status r.count (Reading s r.place.sector r.place.offset r.place.left) ≡ (tells_end g d b (gets s (fill g f d s p b))).answer
-  unfolding gets
-  told-answer f p e = rw e

@@ -1,20 +1,17 @@
 -- Bytes read by runs: a run of bytes out of one sector is the same bytes one by one.
 use mathlib.Core.List.{List}
-use mathlib.Core.Bool.{Bool, true, false, ◌&&◌}
+use mathlib.Core.Bool.{Bool, true, false}
 use mathlib.Core.Path.{◌≡◌, refl, sym, ap, ◌∙◌}
 use Prim.Native.Nat.{ℕ, suc, zero, ◌+◌, ◌-◌, ◌≤◌, ◌<◌}
 use native.Mathlib.Nat.{add-zero, zero-add, sub-zero}
 use native.Mathlib.Numerals.{add-one}
 use native.Mathlib.Omega.{arith}
-use lib.Dec.{leb, ltb}
 use lib.ListN.{set}
 use lib.Seq.{sets}
-use borrow.Author.Tests.{leb-true, ltb-true}
 use Rattle.layout.specs.Basics.{if, values_from}
 use Rattle.layout.specs.Image.{Disk, Geometry}
 use Rattle.layout.specs.File.{next, in_use}
 use Rattle.layout.specs.Status.{success, bad_chain, end_of_file}
-use Rattle.layout.proofs.Logic.{and_left, and_right}
 use Rattle.rules.specs.declared.Form.{Form}
 use Rattle.rules.specs.declared.Place.{Place}
 use Rattle.rules.specs.declared.Seek.TheVariants.{Ready, Ended, Broken}
@@ -134,7 +131,3 @@ gets_at_hand {g} {d} s n k o l b t e c z =
     let w : Gets g d s n 0 (place k o l) b 0 (place k o l) b = comes_start 0 (place k o l) b (omega arith) t in
     let v : Gets g d s n 0 (place k o l) b (0 + n) (place k (o + n) l) c = comes_run w h.0 n (omega arith) h.1 (λ _ _. refl) c z in
     comes_all (rw (zero-add n) at v) (omega arith)
-
--- what a loop over full sectors tests: that it has not come to their end, and that the buffer has room
-pub room-left : (r a l m : ℕ) → (ltb a l && leb r m) ≡ true → (a < l) × (r ≤ m)
-room-left r a l m e = (ltb-true a l (and_left (ltb a l) (leb r m) e), leb-true r m (and_right (ltb a l) (leb r m) e))

@@ -8,6 +8,7 @@ use native.Mathlib.Omega.{arith}
 use lib.Dec.{eqb, leb, ltb}
 use borrow.Author.Tests.{eqb-true, ne_eqb, eqb-false, lt-ltb, le-ltb, leb-true, ltb-true, not-true}
 use Rattle.layout.specs.Image.{Disk, Geometry}
+use Rattle.layout.specs.Volume.{data_sector}
 use Rattle.layout.specs.File.{next, in_use, fits}
 use Rattle.layout.proofs.Logic.{and_left, and_right}
 use Rattle.layout.proofs.Data.{data_facts}
@@ -51,6 +52,9 @@ module _ (g : Geometry) (d : Disk) where
       let z = eqb-false k 0 (not-true (eqb k 0) (and_left (not (eqb k 0)) _ e)) in
       (omega (arith, z), leb-true (o + n) (in_use g (d k)) (and_right (not (eqb k 0)) _ e))
 
+  pub hand_facts : (k o n : ℕ) → Entered g d k → at_hand g d k o n ≡ true → (4 ≤ k) × (o + n ≤ g.room)
+  hand_facts k o n t e = let h = at_hand_lem k o n e in let small = t.small h.0 in (t.least h.0, omega arith)
+
   pub byte_left : (k o l : ℕ) → Entered g d k → has_byte g d k o ≡ true → ByteLeft g d (place k o l)
   unfolding has_byte
   byte_left k o l t e =
@@ -93,9 +97,15 @@ module _ (g : Geometry) (d : Disk) where
     unfolding full
     full_used = eqb-true (in_use g (d t)) g.room (and_right (fits g (d t) s t) (eqb (in_use g (d t)) g.room) u)
 
+    pub full_data : data_sector t ≡ true
+    full_data = fits_data g (d t) s t full-fits
+
+    pub full_entered : Entered g d t
+    full_entered = fits_entered s t full-fits
+
     pub full-left : 0 < g.room → (l : ℕ) → ByteLeft g d (place t 0 l)
     full-left r l =
-        let q = data_facts t (fits_data g (d t) s t full-fits) in
+        let q = data_facts t full_data in
         let e = full_used in
         record { low = omega arith; high = omega arith; within = omega arith; small = omega arith }
 
@@ -103,5 +113,5 @@ module _ (g : Geometry) (d : Disk) where
     unfolding next_to_enter has_byte ends
     seek-full k l h a z e =
         let n : k ≢ 0 = λ x. omega arith in
-        let f = data_facts t (fits_data g (d t) s t full-fits) in
+        let f = data_facts t full_data in
         seek-on s k g.room t (rw (ne_eqb k 0 n) e) l z (rw (ne_eqb k 0 n, le-ltb g.room (in_use g (d k)) (h.small a))) (rw (ne_eqb k 0 n, ← e, ne_eqb t 0 (λ x. omega arith))) full-fits

@@ -1,22 +1,24 @@
 // Get and get record on one channel: the checks are the same, and what is read differs.
 ghost use Rattle.std.specs.Prelude.{◌≡◌, ◌<◌, length};
-ghost use Rattle.layout.specs.Image.{Whole, geometry_of, view};
+ghost use Rattle.layout.specs.Image.{Whole, geometry_of, disk};
 ghost use Rattle.layout.specs.declared.State.TheVariants.{Reading};
 ghost use Rattle.rules.specs.Get.{advanced, fill, get_as};
 ghost use Rattle.gets.specs.Entered.{Entered, told_end};
 
-use super::get::{get_some, readable, told};
+use super::get::{get_some, got, readable, told};
 use super::line::fill_line;
+use layout::State;
 use layout::density::Medium;
-use layout::{State, status};
+use layout::status::{self, Status};
 use rules::answers::refused;
 use rules::{Advanced, Form, Got, Place};
 
 // The buffer filled from a place on; or through the line's $9B, and the rest of a line that does not fit dropped. 3 at the file's end.
+#[tactic(auto, unfolding(rules::specs::Get::fill))]
 fn fill(m: Medium, image: &[u8], form: Form, slot: u16, p: Place, buffer: &mut [u8]) -> Got
-    requires { Whole m image.now × (slot < 64) × (0 < length buffer.old) × Entered (geometry_of m) (view (geometry_of m) image.now) p.sector }
-    ensures { let o = fill (geometry_of m) form (view (geometry_of m) image.now) slot p buffer.old in
-        (result ≡ told_end (geometry_of m) (view (geometry_of m) image.now) slot buffer.old o.got) × (buffer.new ≡ o.buffer) }
+    requires { Whole m image.now × (slot < 64) × (0 < length buffer.old) × Entered (geometry_of m) (disk m image.now) p.sector }
+    ensures { let o = fill (geometry_of m) form (disk m image.now) slot p buffer.old in
+        (result ≡ told_end (geometry_of m) (disk m image.now) slot buffer.old o.got) × (buffer.new ≡ o.buffer) }
 {
     match form {
         Form::Characters => get_some(m, image, slot, p, buffer),
@@ -24,23 +26,24 @@ fn fill(m: Medium, image: &[u8], form: Form, slot: u16, p: Place, buffer: &mut [
     }
 }
 
-// An answer, with the reading channel after it.
-fn reading(status: u8, count: usize, slot: u16, p: Place) -> Advanced
-    ensures { result ≡ advanced status count (Reading slot p.sector p.offset p.left) }
+// What reading bytes left as an answer, with the reading channel after it.
+fn reading(slot: u16, r: Got) -> Advanced
+    ensures { result ≡ advanced r.status r.count (Reading slot r.place.sector r.place.offset r.place.left) }
 {
     Advanced {
-        status,
-        count,
+        status: r.status,
+        count: r.count,
         state: State::Reading {
             slot,
-            sector: p.sector,
-            offset: p.offset,
-            left: p.left,
+            sector: r.place.sector,
+            offset: r.place.offset,
+            left: r.place.left,
         },
     }
 }
 
 // A get of either form on a reading channel.
+#[tactic(auto, unfolding(rules::specs::Get::gets), using(rules::proofs::Reached::gets_none, rules::proofs::Reached::gets_broken, rules::proofs::Reached::gets_some))]
 fn get_reading(
     m: Medium,
     image: &[u8],
@@ -50,24 +53,23 @@ fn get_reading(
     buffer: &mut [u8],
 ) -> Advanced
     requires { Whole m image.now }
-    ensures { let o = get_as (geometry_of m) form (view (geometry_of m) image.now) (Reading slot p.sector p.offset p.left) buffer.old in
+    ensures { let o = get_as (geometry_of m) form (disk m image.now) (Reading slot p.sector p.offset p.left) buffer.old in
         (result ≡ o.answer) × (buffer.new ≡ o.buffer) }
 {
-    if buffer.len() == 0 {
-        return reading(status::SUCCESS, 0, slot, p);
+    if buffer.is_empty() {
+        return reading(slot, got(status::SUCCESS, 0, p));
     }
-    if !readable(m, image, slot, p.sector, p.offset) {
-        return reading(status::BAD_CHAIN, 0, slot, p);
+    if !readable(m, image, slot, p) {
+        return reading(slot, got(status::BAD_CHAIN, 0, p));
     }
-    let got = fill(m, image, form, slot, p, buffer);
-    let q = got.place;
-    reading(got.status, got.count, slot, q)
+    reading(slot, fill(m, image, form, slot, p, buffer))
 }
 
 // A get of either form on one channel.
+#[tactic(auto, unfolding(rules::specs::Get::get_as, rules::specs::Get::read_on, rules::specs::Get::or_end_reached))]
 pub fn get_as(m: Medium, image: &[u8], form: Form, st: State, buffer: &mut [u8]) -> Advanced
     requires { Whole m image.now }
-    ensures { let o = get_as (geometry_of m) form (view (geometry_of m) image.now) st buffer.old in
+    ensures { let o = get_as (geometry_of m) form (disk m image.now) st buffer.old in
         (result ≡ o.answer) × (buffer.new ≡ o.buffer) }
 {
     match st {
@@ -85,6 +87,6 @@ pub fn get_as(m: Medium, image: &[u8], form: Form, st: State, buffer: &mut [u8])
             };
             get_reading(m, image, form, slot, p, buffer)
         }
-        State::Writing { slot: _, last: _ } => refused(status::WRITE_ONLY, st),
+        State::Writing { .. } => refused(status::WRITE_ONLY, st),
     }
 }

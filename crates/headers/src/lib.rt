@@ -1,9 +1,11 @@
 // The header of an ATR file, written.
 #![tactic(auto)]
 
-ghost use Rattle.std.specs.Prelude.{◌≡◌, ◌≤◌, length};
+ghost use Rattle.std.specs.Prelude.{Bool, List, MatchOption, ◌≡◌, ℕ, ◌≤◌, length};
+ghost use Rattle.layout.specs.Basics.{if};
+ghost use Rattle.layout.specs.Status.{success, bad_image, write_protected};
 ghost use Rattle.std.proofs.lemmas.List.Edits.{sets};
-ghost use Rattle.rules.specs.WriteHeader.{header_call};
+ghost use Rattle.rules.specs.WriteHeader.{header_call, header_outcome};
 
 use layout::density::Medium;
 use layout::status;
@@ -11,12 +13,16 @@ use rules::Reply;
 use rules::answers::reply;
 use runs::copy::copy;
 
-// A header's sixteen bytes stored in front.
-fn write_sixteen(image: &mut [u8], header: [u8; 16])
-    requires { 16 ≤ length image.old }
-    ensures { image.new ≡ sets image.old 0 header }
+// The header of an image of so many bytes, if that is an ATR's length.
+fn header_of(n: usize) -> Option<[u8; 16]>
+    ensures { MatchOption result ((l : List ℕ) (p : Bool) → length l ≡ n → header_call l p ≡ header_outcome bad_image l)
+        (λ h. (16 ≤ n) × ((l : List ℕ) (p : Bool) → length l ≡ n → header_call l p ≡ if p (header_outcome write_protected l) (header_outcome success (sets l 0 h)))) }
 {
-    copy(image, 0, &header);
+    match n {
+        Medium::SINGLE_ATR_BYTES => Some(Medium::SINGLE_HEADER),
+        Medium::DOUBLE_ATR_BYTES => Some(Medium::DOUBLE_HEADER),
+        _ => None,
+    }
 }
 
 // The header written, on any image: its length alone says which, and 203 is answered for a length that is no ATR's, then 144.
@@ -24,18 +30,12 @@ pub fn write_header(image: &mut [u8], protected: bool) -> Reply
     ensures { let o = header_call image.old protected in
         (result ≡ o.reply) × (image.new ≡ o.image) }
 {
-    let single = image.len() == Medium::SINGLE_ATR_BYTES;
-    let double = image.len() == Medium::DOUBLE_ATR_BYTES;
-    if !(single | double) {
+    let Some(header) = header_of(image.len()) else {
         return reply(status::BAD_IMAGE, 0);
-    }
+    };
     if protected {
         return reply(status::WRITE_PROTECTED, 0);
     }
-    if single {
-        write_sixteen(image, Medium::SINGLE_HEADER);
-        return reply(status::SUCCESS, 0);
-    }
-    write_sixteen(image, Medium::DOUBLE_HEADER);
+    copy(image, 0, &header);
     reply(status::SUCCESS, 0)
 }

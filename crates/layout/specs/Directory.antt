@@ -1,7 +1,5 @@
 -- The directory: the first 128 bytes of sectors 361 to 368, 64 slots of 16 bytes.
-use Rattle.std.specs.Prelude.{Bool, true, false, not, ◌&&◌, ◌||◌, List, [], ◌∷◌, ◌≡◌, ℕ, suc, zero, ◌+◌, ◌*◌, ◌/◌, ◌%◌, ◌<◌, eqb, ltb}
-use Rattle.layout.specs.declared.Found.{Found}
-use Rattle.layout.specs.declared.Found.TheVariants.{At, Nothing}
+use Rattle.std.specs.Prelude.{Bool, false, not, ◌&&◌, ◌||◌, List, [], ◌∷◌, ◌≡◌, ℕ, suc, zero, ◌+◌, ◌*◌, ◌/◌, ◌%◌, ◌<◌, eqb, ltb, is_some, Option, Some, None}
 use Rattle.layout.specs.Basics.{if, first_from, all_below}
 use Rattle.layout.specs.Image.{Disk, write_byte, word}
 use Rattle.layout.specs.Volume.{is_set}
@@ -96,44 +94,44 @@ unfoldable pub stops : Disk → (ℕ → Bool) → ℕ → Bool
 stops d p s = eqb (flag d s) 0 || p s
 
 -- the first slot that passes before a flag byte of zero, or none
-unfoldable pub search : Disk → (ℕ → Bool) → Found
-search d p = let s = first_from (stops d p) 64 0 in if (eqb s 64 || eqb (flag d s) 0) Nothing (At s)
+unfoldable pub search : Disk → (ℕ → Bool) → Option ℕ
+search d p = let s = first_from (stops d p) 64 0 in if (eqb s 64 || eqb (flag d s) 0) None (Some s)
 
 -- the number of each case: that of a slot found, or that of none. A name is 1 or 170, a new file's slot 1 or 169; another slot with the name is 201, none 1
-abbrev pub found_status : ℕ → ℕ → Found → ℕ
-found_status one none (At s) = one
-found_status one none Nothing = none
+abbrev pub found_status : ℕ → ℕ → Option ℕ → ℕ
+found_status one none (Some s) = one
+found_status one none None = none
 
 -- the values of each case: the slot, or none
-abbrev pub found_slots : Found → List ℕ
-found_slots (At s) = s ∷ []
-found_slots Nothing = []
+abbrev pub found_slots : Option ℕ → List ℕ
+found_slots (Some s) = s ∷ []
+found_slots None = []
 
 -- the promise of a function that answers a slot, where the rules answer f: the same case, with its number and its values
-abbrev pub TellsFound : ℕ → ℕ → Found → Found → Type 0
+abbrev pub TellsFound : ℕ → ℕ → Option ℕ → Option ℕ → Type 0
 TellsFound one none f r = (r ≡ f) × (found_status one none r ≡ found_status one none f) × (found_slots r ≡ found_slots f)
 
 -- the slot found is s
-abbrev pub is_at : Found → ℕ → Bool
-is_at (At x) s = eqb x s
-is_at Nothing s = false
+abbrev pub is_at : Option ℕ → ℕ → Bool
+is_at (Some x) s = eqb x s
+is_at None s = false
 
 -- a slot found is one of the 64
-abbrev pub Below : Found → Type 0
-Below (At s) = s < 64
-Below Nothing = Unit {0}
+abbrev pub Below : Option ℕ → Type 0
+Below (Some s) = s < 64
+Below None = Unit {0}
 
 -- what follows with the slot found, or without one
-unfoldable pub found : {A : Type 0} → Found → A → (ℕ → A) → A
-found (At s) missing rest = rest s
-found Nothing missing rest = missing
+unfoldable pub found : {A : Type 0} → Option ℕ → A → (ℕ → A) → A
+found (Some s) missing rest = rest s
+found None missing rest = missing
 
 -- slot s, which a search comes to, has the name and stands
 unfoldable pub bears : Disk → (ℕ → ℕ) → ℕ → Bool
 bears d w s = standing_flag (flag d s) && same_name d s w
 
 -- the first standing slot with the name is the one found
-unfoldable pub find : Disk → (ℕ → ℕ) → Found
+unfoldable pub find : Disk → (ℕ → ℕ) → Option ℕ
 find d w = search d (bears d w)
 
 -- slot x, which is not s, has the name and stands
@@ -141,9 +139,8 @@ unfoldable pub bears_beside : Disk → (ℕ → ℕ) → ℕ → ℕ → Bool
 bears_beside d w s x = bears d w x && not (eqb x s)
 
 -- there is such a slot
-abbrev pub is_found : Found → Bool
-is_found (At s) = true
-is_found Nothing = false
+abbrev pub is_found : Option ℕ → Bool
+is_found f = is_some f
 
 -- another standing slot than s has the name w
 unfoldable pub another : Disk → (ℕ → ℕ) → ℕ → Bool

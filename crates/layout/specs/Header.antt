@@ -1,8 +1,6 @@
 -- The header of an ATR file, and what an image is served as.
-use Rattle.std.specs.Prelude.{Bool, not, List, [], ◌∷◌, ◌≡◌, ℕ, ◌+◌, ◌*◌, ◌/◌, ◌%◌, eqb, length, get_or}
+use Rattle.std.specs.Prelude.{Bool, not, List, [], ◌∷◌, ◌≡◌, ℕ, ◌+◌, ◌*◌, ◌/◌, ◌%◌, eqb, length, get_or, Result, Ok, Err}
 use Rattle.layout.specs.declared.density.Medium.{Medium}
-use Rattle.layout.specs.declared.Served.{Served}
-use Rattle.layout.specs.declared.Served.TheVariants.{As, Not}
 use Rattle.layout.specs.Basics.{if, check, all_below}
 use Rattle.layout.specs.Image.{raw, atr_single, atr_double, geometry_of}
 use Rattle.layout.specs.Status.{success, bad_image, bad_header}
@@ -31,34 +29,34 @@ unfoldable pub agrees : Medium → List ℕ → Bool
 agrees m l = all_below 7 (same_header m l)
 
 -- an ATR of this medium's length: 205 for a header that does not agree with it
-unfoldable pub served_atr : Medium → List ℕ → Served
+unfoldable pub served_atr : Medium → List ℕ → Result Medium ℕ
 served_atr m l =
-    check (not (agrees m l)) (Not bad_header) λ _.
-    As m
+    check (not (agrees m l)) (Err bad_header) λ _.
+    Ok m
 
 -- what an image is served as, by its length: 203 for any other
-unfoldable pub served_as : List ℕ → Served
+unfoldable pub served_as : List ℕ → Result Medium ℕ
 served_as l =
-    check (eqb (length l) (geometry_of raw).total) (As raw) λ _.
+    check (eqb (length l) (geometry_of raw).total) (Ok raw) λ _.
     check (eqb (length l) (geometry_of atr_single).total) (served_atr atr_single l) λ _.
     check (eqb (length l) (geometry_of atr_double).total) (served_atr atr_double l) λ _.
-    Not bad_image
+    Err bad_image
 
 -- the number of each case: 1, or its one refusal
-abbrev pub served_status : Served → ℕ
-served_status (As m) = success
-served_status (Not status) = status
+abbrev pub served_status : Result Medium ℕ → ℕ
+served_status (Ok m) = success
+served_status (Err status) = status
 
 -- the values of each case: bytes of the header, of a sector from the fourth on, and of a file sector's data; or none
-abbrev pub served_sizes : Served → List ℕ
-served_sizes (As m) = m.header ∷ m.density.size ∷ m.density.room ∷ []
-served_sizes (Not status) = []
+abbrev pub served_sizes : Result Medium ℕ → List ℕ
+served_sizes (Ok m) = m.header ∷ m.density.size ∷ m.density.room ∷ []
+served_sizes (Err status) = []
 
 -- the promise of a function that says what an image is served as, where the rules say v: the same case, with its number and its values
-abbrev pub TellsServed : Served → Served → Type 0
+abbrev pub TellsServed : Result Medium ℕ → Result Medium ℕ → Type 0
 TellsServed v r = (r ≡ v) × (served_status r ≡ served_status v) × (served_sizes r ≡ served_sizes v)
 
 -- what follows with the medium, or with the refusal
-unfoldable pub served : {A : Type 0} → Served → (ℕ → A) → (Medium → A) → A
-served (As m) refusal rest = rest m
-served (Not status) refusal rest = refusal status
+unfoldable pub served : {A : Type 0} → Result Medium ℕ → (ℕ → A) → (Medium → A) → A
+served (Ok m) refusal rest = rest m
+served (Err status) refusal rest = refusal status

@@ -89,6 +89,10 @@ module _ (g : Geometry) where
   unfoldable pub image_of : ℕ → Disk → List ℕ
   image_of n d = values_from (λ i. d (g.sector_of i) (g.place_of i)) n 0
 
+-- the disk that an image of a medium holds
+abbrev pub disk : Medium → List ℕ → Disk
+disk m l = view (geometry_of m) l
+
 -- byte j of sector k written
 unfoldable pub write_byte : Disk → ℕ → ℕ → ℕ → Disk
 write_byte d k j v = update d k (update (d k) j v)

@@ -1,12 +1,11 @@
 -- What an image is served as, by its length and the two headers written out.
-use mathlib.Core.Bool.{Bool, true, false, ◌&&◌}
 use mathlib.Core.List.{List, [], ◌∷◌}
 use mathlib.Core.Logic.{◌≢◌}
-use mathlib.Core.Path.{◌≡◌, refl, ap}
+use mathlib.Core.Path.{◌≡◌, refl}
 use Prim.Native.Nat.{ℕ}
 use lib.ListN.{length}
 use borrow.Author.Tests.{ne_eqb}
-use Rattle.layout.specs.declared.Served.TheVariants.{As, Not}
+use Rattle.std.specs.Prelude.{Ok, Err}
 use Rattle.layout.specs.Basics.{check, all_below}
 use Rattle.layout.specs.Image.{single_density, double_density, raw, atr_single, atr_double}
 use Rattle.layout.specs.Header.{units, header_byte, same_header, agrees, served_atr, served_as}
@@ -19,15 +18,6 @@ single_header = 0x96 ∷ 0x02 ∷ 0x80 ∷ 0x16 ∷ 0x80 ∷ 0 ∷ 0 ∷ 0 ∷ 0
 abbrev pub double_header : List ℕ
 double_header = 0x96 ∷ 0x02 ∷ 0xE8 ∷ 0x2C ∷ 0 ∷ 1 ∷ 0 ∷ 0 ∷ 0 ∷ 0 ∷ 0 ∷ 0 ∷ 0 ∷ 0 ∷ 0 ∷ 0 ∷ []
 
--- seven tests, the last of them with nothing behind it
-pub all_seven : (p : ℕ → Bool) → (p 6 && (p 5 && (p 4 && (p 3 && (p 2 && (p 1 && p 0)))))) ≡ all_below 7 p
-unfolding all_below
-all_seven p = ap (λ a. p 6 && (p 5 && (p 4 && (p 3 && (p 2 && (p 1 && a)))))) (go (p 0))
-  where
-    go : (a : Bool) → a ≡ (a && true)
-    go true = refl
-    go false = refl
-
 module _ (l : List ℕ) where
   single-same : agrees atr_single l ≡ all_below 7 (same_at single_header l)
   unfolding agrees same_header header_byte units all_below
@@ -37,7 +27,7 @@ module _ (l : List ℕ) where
   unfolding agrees same_header header_byte units all_below
   double_same = refl
 
-  pub is_raw_lem : length l ≡ 92160 → served_as l ≡ As raw
+  pub is_raw_lem : length l ≡ 92160 → served_as l ≡ Ok raw
   is_raw_lem n = kind-served l raw (is_raw refl n)
 
   pub is_single_lem : length l ≡ 92176 → served_as l ≡ served_by single_header single_density l
@@ -48,6 +38,6 @@ module _ (l : List ℕ) where
   unfolding served_as served_atr served_by check
   is_double_lem n = rw (n, double_same)
 
-  pub no_length : length l ≢ 92160 → length l ≢ 92176 → length l ≢ 183952 → served_as l ≡ Not 203
+  pub no_length : length l ≢ 92160 → length l ≢ 92176 → length l ≢ 183952 → served_as l ≡ Err 203
   unfolding served_as check
   no_length a b c = rw (ne_eqb (length l) 92160 a, ne_eqb (length l) 92176 b, ne_eqb (length l) 183952 c)

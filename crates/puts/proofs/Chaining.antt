@@ -4,7 +4,7 @@ use mathlib.Core.List.{List}
 use mathlib.Core.Logic.{◌≢◌}
 use mathlib.Core.Path.{◌≡◌, refl, sym, ap, ◌∙◌}
 use Prim.Native.Nat.{ℕ, suc, ◌+◌, ◌-◌, ◌*◌, ◌≤◌, ◌<◌}
-use native.Mathlib.Nat.{suc-mul}
+use native.Mathlib.Nat.{suc-mul, mul-le-mul_right}
 use native.Mathlib.Omega.{arith}
 use lib.ListN.{length, take, drop, length-drop}
 use lib.Seq.{length-take-le}
@@ -33,6 +33,13 @@ pub record Chaining (g : Geometry) (s : ℕ) (b : List ℕ) (d₀ : Disk) (p₀ 
 -- behind a sector itself there is none
 none-behind : (i p p₀ r : ℕ) → p ≡ p₀ → i + (p - p₀) * r ≡ i
 none-behind i p p₀ r e = let none : p - p₀ ≡ 0 = omega arith in rw none (omega arith)
+
+-- where n bytes hold the sectors behind p₀ up to e, they hold those up to the one behind p
+pub bytes_within : (i p₀ p e r n : ℕ) → p₀ ≤ p → p < e → i + (e - p₀) * r ≤ n → i + (p - p₀ + 1) * r ≤ n
+bytes_within i p₀ p e r n a h u =
+    let part : p - p₀ + 1 ≤ e - p₀ = omega arith in
+    let bytes = mul-le-mul_right r part in
+    omega arith
 
 module _ {g : Geometry} {s : ℕ} {b : List ℕ} {d₀ : Disk} {p₀ i₀ : ℕ} where
   -- none was chained yet

@@ -1,26 +1,21 @@
--- A put in the parts that the code has: the line of a put record and the $9B behind it, and the rows of both forms.
-use mathlib.Core.Bool.{true, false, not}
+-- A put in the parts that the code has: the line of a put record and the $9B behind it.
 use mathlib.Core.List.{List, [], ◌∷◌, ◌++◌}
 use mathlib.Core.Logic.{◌≢◌}
 use mathlib.Core.Path.{◌≡◌, refl, sym, ap, ◌∙◌}
 use Prim.Native.Nat.{ℕ, suc, min, ◌+◌, ◌≤◌, ◌<◌}
 use native.Mathlib.Omega.{arith}
-use lib.Dec.{eqb}
 use lib.ListN.{length, take, length-take}
 use Rattle.layout.specs.declared.State.{State}
-use Rattle.layout.specs.declared.State.TheVariants.{Writing}
 use Rattle.layout.specs.Basics.{through}
 use Rattle.layout.specs.Image.{Disk, Geometry}
 use Rattle.layout.specs.File.{end_of_line}
-use Rattle.layout.specs.Volume.{good}
-use Rattle.layout.specs.Status.{success, bad_table, bad_chain}
-use Rattle.layout.proofs.Check.{check_yes, check_no}
+use Rattle.layout.specs.Status.{success}
 use Rattle.rules.specs.declared.Added.{Added}
 use Rattle.rules.specs.declared.Advanced.{Advanced}
 use Rattle.rules.specs.declared.Form.{Form}
 use Rattle.rules.specs.declared.Form.TheVariants.{Record}
 use Rattle.rules.specs.Get.{advanced}
-use Rattle.rules.specs.Put.{Adds, PutOutcome, sent, reported, put_keeps, puts, put_from, writable, put_on}
+use Rattle.rules.specs.Put.{Adds, sent, reported, put_from}
 use Rattle.rules.proofs.Sent.{none-reported}
 use Rattle.puts.specs.Recorded.{told}
 use Rattle.puts.proofs.Sent.{line_end, sent-ends, sent_open}
@@ -74,22 +69,3 @@ module _ (g : Geometry) (s : ℕ) (b : List ℕ) (d : Disk) (p : ℕ) where
       let least = (behind g s (end_of_line ∷ []) a.disk a.added.last a.added.count).least in
       let n : a.added.count ≡ min o.added.count (length b) = omega arith in
       rw (own_end b h, added, disk) (ap (λ k. record { status = o.added.status; count = k; last = o.added.last }) n, refl)
-
--- the rows behind 144
-module _ (g : Geometry) (s : ℕ) (f : Form) (b : List ℕ) (d : Disk) (p : ℕ) where
-  pub row-none : eqb (length (sent f b)) 0 ≡ true → put_on g d false (Writing s p) (sent f b) ≡ put_keeps success d (Writing s p)
-  unfolding put_on
-  row-none n = check_no {A = PutOutcome} false _ _ refl ∙ check_yes {A = PutOutcome} _ _ _ n
-
-  module _ (n : eqb (length (sent f b)) 0 ≡ false) where
-    pub row-table : not (good (d 360)) ≡ true → put_on g d false (Writing s p) (sent f b) ≡ put_keeps bad_table d (Writing s p)
-    unfolding put_on
-    row-table t = check_no {A = PutOutcome} false _ _ refl ∙ check_no {A = PutOutcome} _ _ _ n ∙ check_yes {A = PutOutcome} _ _ _ t
-
-    pub row-chain : not (good (d 360)) ≡ false → not (writable g d s p) ≡ true → put_on g d false (Writing s p) (sent f b) ≡ put_keeps bad_chain d (Writing s p)
-    unfolding put_on
-    row-chain t w = check_no {A = PutOutcome} false _ _ refl ∙ check_no {A = PutOutcome} _ _ _ n ∙ check_no {A = PutOutcome} _ _ _ t ∙ check_yes {A = PutOutcome} _ _ _ w
-
-    pub row-adds : not (good (d 360)) ≡ false → not (writable g d s p) ≡ false → put_on g d false (Writing s p) (sent f b) ≡ puts s (put_from g (sent f b) d s p 0)
-    unfolding put_on
-    row-adds t w = check_no {A = PutOutcome} false _ _ refl ∙ check_no {A = PutOutcome} _ _ _ n ∙ check_no {A = PutOutcome} _ _ _ t ∙ check_no {A = PutOutcome} _ _ _ w

@@ -9,9 +9,8 @@ use lib.ListN.{length}
 use Rattle.layout.specs.declared.State.{State}
 use Rattle.layout.specs.declared.State.TheVariants.{Closed, Reading, Writing}
 use Rattle.layout.specs.declared.Table.{Table}
-use Rattle.layout.specs.declared.Name.{Name}
-use Rattle.layout.specs.declared.Name.TheVariants.{Is}
-use Rattle.layout.specs.declared.Found.TheVariants.{At, Nothing}
+use Rattle.std.specs.Prelude.{Some, None, Result, Ok}
+use Rattle.layout.specs.declared.FileName.{FileName}
 use Rattle.rules.specs.declared.Block.{Block}
 use Rattle.rules.specs.declared.Form.{Form}
 use Rattle.rules.specs.declared.Transfer.TheVariants.{Get, Put}
@@ -25,7 +24,7 @@ use Rattle.layout.specs.Volume.{bit_on, bit_off, good, lowest, formatted}
 use Rattle.layout.specs.Directory.{flag, count, name, write_flag, write_name, locked, output_flag, find, another, is43}
 use Rattle.layout.specs.File.{clean, clean_free, chain, delete, restore}
 use Rattle.layout.specs.Channels.{state_of, with_state, open_at, any_open, held, new_slot}
-use Rattle.layout.specs.Names.{name_byte, read_name, old_name, new_name, legal}
+use Rattle.layout.specs.Names.{name_byte, read_name, old_name, new_name, legal, file_name}
 use Rattle.layout.specs.Status.{success, succeeds, channel_closed, write_only, write_protected, bad_table, bad_chain}
 use Rattle.rules.specs.Get.{Reads, place, readable, fill, gets, GetOutcome, get_keeps, or_end_reached, tells_end}
 use Rattle.rules.specs.Put.{Adds, sent, reported, writable, put_from, puts, PutOutcome, put_keeps}
@@ -64,12 +63,12 @@ pub record On (c : Block) (k : Command) : Type 0 where
   pub command : Asks c k
 
 -- a name that was read
-pub record Told (n : Name) : Type 0 where
+pub record Told (n : Result FileName ℕ) : Type 0 where
   pub word : ℕ
   pub extension : ℕ
-  pub read : n ≡ Is word extension
+  pub read : n ≡ Ok (file_name word extension)
 
-abbrev pub bytes : {n : Name} → Told n → ℕ → ℕ
+abbrev pub bytes : {n : Result FileName ℕ} → Told n → ℕ → ℕ
 bytes r = name_byte r.word r.extension
 
 module _ (g : Geometry) (d : Disk) where
@@ -99,10 +98,10 @@ abbrev pub gotten : Geometry → Disk → Table → ℕ → ℕ → List ℕ →
 gotten g d t i s b r =
     let p = r.got.place in
     let st = Reading s p.sector p.offset p.left in
-    outcome (record { status = or_end_reached g d b st r.got.status; count = r.got.count; disk = d; table = with_state t i st; given = []; took = Nothing }) r.buffer
+    outcome (record { status = or_end_reached g d b st r.got.status; count = r.got.count; disk = d; table = with_state t i st; given = []; took = None }) r.buffer
 
 abbrev pub added : Table → ℕ → ℕ → Form → List ℕ → Adds → Effect
-added t i s f b a = record { status = a.added.status; count = reported f b a.added.count; disk = a.disk; table = with_state t i (Writing s a.added.last); given = a.given; took = Nothing }
+added t i s f b a = record { status = a.added.status; count = reported f b a.added.count; disk = a.disk; table = with_state t i (Writing s a.added.last); given = a.given; took = None }
 
 module _ (g : Geometry) (d : Disk) (t : Table) where
   -- why a call is refused, by what is asked of it: 144, 163 and 164 tell which test failed
@@ -110,7 +109,7 @@ module _ (g : Geometry) (d : Disk) (t : Table) where
     plain : {k : Kind} (n : ℕ) → plainly n ≡ true → Why protected k n
     barred : {k : Kind} → protected ≡ true → Why protected k write_protected
     no_table : {k : Kind} → good (d 360) ≡ false → Why protected k bad_table
-    no-chain : {f : FileCommand} (w : ℕ → ℕ) (s : ℕ) → find d w ≡ At s → clean g d s ≡ false → Why protected (asks (Files f)) bad_chain
+    no-chain : {f : FileCommand} (w : ℕ → ℕ) (s : ℕ) → find d w ≡ Some s → clean g d s ≡ false → Why protected (asks (Files f)) bad_chain
     no_read : {f : Form} (i s k o l : ℕ) → i < 8 → state_of t i ≡ Reading s k o l → readable g d s k o ≡ false → Why protected (asks (Moves (Get f))) bad_chain
     no_write : {f : Form} (i s p : ℕ) → i < 8 → state_of t i ≡ Writing s p → writable g d s p ≡ false → Why protected (asks (Moves (Put f))) bad_chain
 
@@ -121,16 +120,16 @@ module _ (g : Geometry) (d : Disk) (t : Table) where
     pub permitted : (could_change c.direction k && c.protected) ≡ false
 
   -- the name read and the slot found, on a good table
-  pub record Aimed (n : Name) (s : ℕ) : Type 0 where
+  pub record Aimed (n : Result FileName ℕ) (s : ℕ) : Type 0 where
     pub told : Told n
     pub table : good (d 360) ≡ true
-    pub at : find d (bytes told) ≡ At s
+    pub at : find d (bytes told) ≡ Some s
 
   pub record Opens (c : Block) (text : List ℕ) (s : ℕ) : Type 0 where
     pub ready : Ready c Open
     pub direction : c.direction ≡ 4
     pub told : Told (read_name text)
-    pub at : find d (bytes told) ≡ At s
+    pub at : find d (bytes told) ≡ Some s
     pub quiet : output_flag (flag d s) ≡ false
 
   pub record Rewrites (c : Block) (text : List ℕ) (s : ℕ) : Type 0 where
@@ -146,8 +145,8 @@ module _ (g : Geometry) (d : Disk) (t : Table) where
     pub direction : c.direction ≡ 8
     pub told : Told (read_name text)
     pub table : good (d 360) ≡ true
-    pub missing : find d (bytes told) ≡ Nothing
-    pub vacant : new_slot d t ≡ At s
+    pub missing : find d (bytes told) ≡ None
+    pub vacant : new_slot d t ≡ Some s
     pub room : lowest (d 360) ≢ 0
 
   pub record Gets (f : Form) (c : Block) (b : List ℕ) (s k o l : ℕ) : Type 0 where
@@ -216,7 +215,7 @@ module _ (g : Geometry) (d : Disk) (t : Table) where
     -- close of a channel that does not write, of a writing one whose slot is $43, and of one whose slot is not
     frees : {c : Block} {text b : List ℕ} → On c Close → ((s p : ℕ) → state_of t c.channel ≢ Writing s p) → Ends (asks Close) (cio_of c text b) (outcome (done g d t d (with_state t c.channel Closed)) b)
     closes : {c : Block} {text b : List ℕ} (s p : ℕ) → Closes c s p → is43 d s ≡ true → Ends (asks Close) (cio_of c text b) (outcome (done g d t (write_flag d s 0x42) (with_state t c.channel Closed)) b)
-    drops : {c : Block} {text b : List ℕ} (s p : ℕ) → Closes c s p → is43 d s ≡ false → Ends (asks Close) (cio_of c text b) (outcome (effect bad_chain d (with_state t c.channel Closed) [] Nothing) b)
+    drops : {c : Block} {text b : List ℕ} (s p : ℕ) → Closes c s p → is43 d s ≡ false → Ends (asks Close) (cio_of c text b) (outcome (effect bad_chain d (with_state t c.channel Closed) [] None) b)
     -- open for input, for output over a found file, and of a new one
     opens : {c : Block} {text b : List ℕ} (s : ℕ) → Opens c text s → Ends (asks (Files Open)) (cio_of c text b) (outcome (done g d t d (with_state t c.channel (Reading s 0 0 (count d s)))) b)
     rewrites : {c : Block} {text b : List ℕ} (s : ℕ) → Rewrites c text s → Ends (asks (Files Open)) (cio_of c text b) (outcome (rewritten g d t c.channel s) b)

@@ -11,10 +11,10 @@ use borrow.Author.Tests.{eqb-true, eqb-false, leb-false, lt-leb, not-true, not-f
 use Rattle.layout.specs.declared.State.{State}
 use Rattle.layout.specs.declared.State.TheVariants.{Closed, Reading, Writing}
 use Rattle.layout.specs.declared.Table.{Table}
-use Rattle.layout.specs.declared.Name.{Name}
-use Rattle.layout.specs.declared.Name.TheVariants.{Is, Refused}
-use Rattle.layout.specs.declared.Found.{Found}
-use Rattle.layout.specs.declared.Found.TheVariants.{At, Nothing}
+use Rattle.std.specs.Prelude.{Option, Some, None, Result, Ok, Err}
+use Rattle.layout.specs.declared.FileName.{FileName}
+use Rattle.rules.specs.declared.Unfound.{Unfound}
+use Rattle.rules.specs.declared.Unfound.TheVariants.{Missing, Denied}
 use Rattle.rules.specs.declared.Block.{Block}
 use Rattle.rules.specs.declared.Form.{Form}
 use Rattle.rules.specs.declared.Form.TheVariants.{Characters, Record}
@@ -24,15 +24,13 @@ use Rattle.rules.specs.declared.FileCommand.{FileCommand}
 use Rattle.rules.specs.declared.FileCommand.TheVariants.{Open, Status, Rename, Delete, Lock, Unlock, Format}
 use Rattle.rules.specs.declared.Command.{Command}
 use Rattle.rules.specs.declared.Command.TheVariants.{Moves, Close, Files, Unlisted}
-use Rattle.rules.specs.declared.Target.{Target}
-use Rattle.rules.specs.declared.Target.TheVariants.{Slot, Missing, Denied}
 use Rattle.layout.specs.Basics.{if, check, member}
 use Rattle.layout.specs.Image.{Disk, Geometry}
 use Rattle.layout.specs.Volume.{bit_on, bit_off, good, lowest}
 use Rattle.layout.specs.Directory.{flag, write_flag, locked, found, find, is43}
 use Rattle.layout.specs.File.{clean}
 use Rattle.layout.specs.Channels.{state_of, with_state, held}
-use Rattle.layout.specs.Names.{well_formed, name_at, read_as, body, ending, comma, whole_end, named, read_name, old_name, new_name, read_device}
+use Rattle.layout.specs.Names.{well_formed, name_at, read_as, body, ending, comma, whole_end, named, read_name, old_name, new_name, read_device, file_name}
 use Rattle.layout.specs.Status.{success, Fails, bad_channel, bad_command, channel_open, write_only, channel_closed, write_protected, not_served, bad_device, bad_unit, bad_name, bad_table, not_found, file_locked, file_held, bad_chain, truncated}
 use Rattle.layout.proofs.Check.{check_yes, check_no, by_check, by_name, by_found}
 use Rattle.layout.proofs.Channels.{with_id}
@@ -60,40 +58,40 @@ why_fails (no_write i s p z q h) e = true≢false (sym e)
 
 -- a name's refusal is 130, 160 or 165: what holds of these holds of it
 module _ (Q : ℕ → Type 0) (p : Q bad_device) (q : Q bad_unit) (r : Q bad_name) where
-  is_refused : (k n : ℕ) → Q k → Refused k ≡ Refused n → Q n
+  is_refused : (k n : ℕ) → Q k → ◌≡◌ {A = Result FileName ℕ} (Err k) (Err n) → Q n
   is_refused k n h e = let v : k ≡ n = cc in rw (← v) h
 
-  pub by_name_at : (ends : ℕ → Bool) (text : List ℕ) (i n : ℕ) → name_at ends text i ≡ Refused n → Q n
+  pub by_name_at : (ends : ℕ → Bool) (text : List ℕ) (i n : ℕ) → name_at ends text i ≡ Err n → Q n
   unfolding name_at
   by_name_at ends text i n = go (well_formed ends text i) _ _
     where
-      go : (b : Bool) (x y : ℕ) → if b (Is x y) (Refused bad_name) ≡ Refused n → Q n
+      go : (b : Bool) (x y : ℕ) → if b (Ok (file_name x y)) (Err bad_name) ≡ Err n → Q n
       go true x y e = absurd (let v : ◌≡◌ {A = ℕ} 0 1 = cc in omega arith)
       go false x y e = is_refused bad_name n r e
 
-  pub by_read : (ends : ℕ → Bool) (text : List ℕ) (n : ℕ) → read_as ends text ≡ Refused n → Q n
+  pub by_read : (ends : ℕ → Bool) (text : List ℕ) (n : ℕ) → read_as ends text ≡ Err n → Q n
   unfolding read_as
   by_read ends text n = by_check P _ _ _ (λ _. is_refused bad_device n p) λ _. by_check P _ _ _ (λ _. is_refused bad_unit n q) λ _. by_name_at ends text (body text) n
     where
-      P : Name → Type 0
-      P m = m ≡ Refused n → Q n
+      P : Result FileName ℕ → Type 0
+      P m = m ≡ Err n → Q n
 
   pub by_device : Q success → (text : List ℕ) → Q (read_device text)
   unfolding read_device
   by_device s text = by_check Q _ _ _ (λ _. p) λ _. by_check Q _ _ _ (λ _. q) λ _. by_check Q _ _ _ (λ _. r) λ _. s
 
 -- two names: the refusal is that of either; where there is none the first was read
-both-refused : (Q : ℕ → Type 0) (a b : Name) → ((n : ℕ) → a ≡ Refused n → Q n) → ((n : ℕ) → b ≡ Refused n → Q n) → (n : ℕ) → both a b ≡ Refused n → Q n
+both-refused : (Q : ℕ → Type 0) (a b : Result FileName ℕ) → ((n : ℕ) → a ≡ Err n → Q n) → ((n : ℕ) → b ≡ Err n → Q n) → (n : ℕ) → both a b ≡ Err n → Q n
 unfolding both
-both-refused Q (Refused k) b p q n e = p n e
-both-refused Q (Is x y) (Refused k) p q n e = q n e
-both-refused Q (Is x y) (Is v w) p q n e = p n e
+both-refused Q (Err k) b p q n e = p n e
+both-refused Q (Ok f) (Err k) p q n e = q n e
+both-refused Q (Ok f) (Ok h) p q n e = p n e
 
-both_first : (a b : Name) (x y : ℕ) → both a b ≡ Is x y → a ≡ Is x y
+both_first : (a b : Result FileName ℕ) (x y : ℕ) → both a b ≡ Ok (file_name x y) → a ≡ Ok (file_name x y)
 unfolding both
-both_first (Refused k) b x y e = e
-both_first (Is v w) (Refused k) x y e = absurd (let q : ◌≡◌ {A = ℕ} 0 1 = cc in omega arith)
-both_first (Is v w) (Is v' w') x y e = e
+both_first (Err k) b x y e = e
+both_first (Ok f) (Err k) x y e = absurd (let q : ◌≡◌ {A = ℕ} 0 1 = cc in omega arith)
+both_first (Ok f) (Ok h) x y e = e
 
 -- a get and a put on one channel, of either form
 module _ (g : Geometry) (d : Disk) where
@@ -160,10 +158,10 @@ module _ {A : Type 0} {g : Geometry} {d : Disk} {t : Table} {protected : Bool} {
   notch_row : {change : Bool} (rest : Unit {0} → A) → (change ≡ true → member write_protected l ≡ true) → ((change && protected) ≡ false → P (rest tt)) → P (check (change && protected) (refusal write_protected) rest)
   notch_row {change = change} rest m q = by_check P (change && protected) _ rest (λ e. w.refusing write_protected (barred (and_right change protected e)) (m (and_left change protected e))) q
 
-  name-row : {x : Name} (rest : (ℕ → ℕ) → A) → ((n : ℕ) → x ≡ Refused n → Plain l n) → ((r : Told x) → P (rest (bytes r))) → P (named x refusal rest)
+  name-row : {x : Result FileName ℕ} (rest : (ℕ → ℕ) → A) → ((n : ℕ) → x ≡ Err n → Plain l n) → ((r : Told x) → P (rest (bytes r))) → P (named x refusal rest)
   name-row {x = x} rest p q = by_name P x refusal rest (λ n e. refuse_plain n (p n e)) λ a e r. q (record { word = a; extension = e; read = r })
 
-  found-row : {f : Found} (n : ℕ) (rest : ℕ → A) → Plain l n → ((s : ℕ) → f ≡ At s → P (rest s)) → P (found f (refusal n) rest)
+  found-row : {f : Option ℕ} (n : ℕ) (rest : ℕ → A) → Plain l n → ((s : ℕ) → f ≡ Some s → P (rest s)) → P (found f (refusal n) rest)
   found-row {f = f} n rest p q = by_found P f _ rest (λ _. refuse_plain n p) q
 
   -- 167 and 200, where a file is to be changed
@@ -197,39 +195,39 @@ module _ {A : Type 0} {g : Geometry} {d : Disk} {t : Table} {protected : Bool} {
     abbrev name_in_lem : member bad_name l ≡ true
     name_in_lem = and_right (member bad_unit l) (member bad_name l) (and_right (member bad_device l) (member bad_unit l && member bad_name l) m)
 
-    read_plain : (ends : ℕ → Bool) (text : List ℕ) (n : ℕ) → read_as ends text ≡ Refused n → Plain l n
+    read_plain : (ends : ℕ → Bool) (text : List ℕ) (n : ℕ) → read_as ends text ≡ Err n → Plain l n
     read_plain ends text n = by_read (Plain l) device_in unit_in name_in_lem ends text n
 
-    at_plain : (ends : ℕ → Bool) (text : List ℕ) (i n : ℕ) → name_at ends text i ≡ Refused n → Plain l n
+    at_plain : (ends : ℕ → Bool) (text : List ℕ) (i n : ℕ) → name_at ends text i ≡ Err n → Plain l n
     at_plain ends text i n = by_name_at (Plain l) device_in unit_in name_in_lem ends text i n
 
 -- the file of a name
 module _ {g : Geometry} {d : Disk} {t : Table} {protected : Bool} {k : Kind} where
-  sought-row : {l : List ℕ} {P : Target → Type 0} → Rows g d t protected k P Denied l → (x : Name) → ((n : ℕ) → x ≡ Refused n → Plain l n)
-      → ((r : Told x) → find d (bytes r) ≡ Nothing → P (Missing r.word r.extension)) → ((r : Told x) (s : ℕ) → find d (bytes r) ≡ At s → P (Slot s)) → P (sought d x)
+  sought-row : {l : List ℕ} {P : Result ℕ Unfound → Type 0} → Rows g d t protected k P (λ n. Err (Denied n)) l → (x : Result FileName ℕ) → ((n : ℕ) → x ≡ Err n → Plain l n)
+      → ((r : Told x) → find d (bytes r) ≡ None → P (Err (Missing (file_name r.word r.extension)))) → ((r : Told x) (s : ℕ) → find d (bytes r) ≡ Some s → P (Ok s)) → P (sought d x)
   unfolding sought
-  sought-row w (Refused n) p q r = refuse_plain w n (p n refl)
-  sought-row {P = P} w (Is word extension) p q r =
-      let told : Told (Is word extension) = record { word = word; extension = extension; read = refl } in
+  sought-row w (Err n) p q r = refuse_plain w n (p n refl)
+  sought-row {P = P} w (Ok f) p q r =
+      let told : Told (Ok f) = record { word = f.name; extension = f.extension; read = refl } in
       by_found P _ _ _ (q told) (r told)
 
   -- and one that a command is to change
-  target_row : {l : List ℕ} {P : Target → Type 0} → Rows g d t protected k P Denied l → (x : Name) → ((n : ℕ) → x ≡ Refused n → Plain l n) → member bad_table l ≡ true
-      → ((r : Told x) → good (d 360) ≡ true → find d (bytes r) ≡ Nothing → P (Missing r.word r.extension)) → ((s : ℕ) → Aimed g d t x s → P (Slot s)) → P (target d x)
+  target_row : {l : List ℕ} {P : Result ℕ Unfound → Type 0} → Rows g d t protected k P (λ n. Err (Denied n)) l → (x : Result FileName ℕ) → ((n : ℕ) → x ≡ Err n → Plain l n) → member bad_table l ≡ true
+      → ((r : Told x) → good (d 360) ≡ true → find d (bytes r) ≡ None → P (Err (Missing (file_name r.word r.extension)))) → ((s : ℕ) → Aimed g d t x s → P (Ok s)) → P (target d x)
   unfolding target
-  target_row w (Refused n) p m q r = refuse_plain w n (p n refl)
-  target_row w (Is word extension) p m q r =
+  target_row w (Err n) p m q r = refuse_plain w n (p n refl)
+  target_row w (Ok f) p m q r =
       row_why w _ no_table m λ v.
-      sought-row w (Is word extension) p (λ n f. q n v f) λ n s f.
+      sought-row w (Ok f) p (λ n f. q n v f) λ n s f.
       r s (record { told = n; table = v; at = f })
 
   -- where it is to be there
-  module _ {l : List ℕ} {P : Effect → Type 0} (w : Rows g d t protected k P (λ n. refused n d t) l) (x : Name) (act : ℕ → Effect) (p : (n : ℕ) → x ≡ Refused n → Plain l n) (m : Plain l not_found) where
-    on-slot : Rows g d t protected k (λ a. P (aimed g d t a act)) Denied l
+  module _ {l : List ℕ} {P : Effect → Type 0} (w : Rows g d t protected k P (λ n. refused n d t) l) (x : Result FileName ℕ) (act : ℕ → Effect) (p : (n : ℕ) → x ≡ Err n → Plain l n) (m : Plain l not_found) where
+    on-slot : Rows g d t protected k (λ a. P (aimed g d t a act)) (λ n. Err (Denied n)) l
     unfolding aimed
     on-slot = record { refusing = w.refusing }
 
-    seen-row : ((r : Told x) (s : ℕ) → find d (bytes r) ≡ At s → P (act s)) → P (aimed g d t (sought d x) act)
+    seen-row : ((r : Told x) (s : ℕ) → find d (bytes r) ≡ Some s → P (act s)) → P (aimed g d t (sought d x) act)
     unfolding aimed
     seen-row r = sought-row on-slot x p (λ _ _. refuse_plain w not_found m) r
 
@@ -244,10 +242,6 @@ module _ {g : Geometry} {d : Disk} {t : Table} {protected : Bool} {k : Kind} whe
       seen-row w _ _ (read_plain w refl ending text) refl λ _ _ _.
       row w _ _ refl λ _.
       p
-
--- a status leaves the disk
-pub status-disk : (g : Geometry) (d : Disk) (t : Table) (text : List ℕ) → (status_call g d t text).disk ≡ d
-status-disk g d t text = status-row {protected = false} {k = asks (Files Status)} {P = λ e. e.disk ≡ d} (record { refusing = λ _ _ _. refl }) text refl
 
 -- the answers of a command on a channel below 8
 pub answers_are : (c : Block) (k : Command) → On c k → answers c ≡ command_answers c.direction k
@@ -333,10 +327,10 @@ unlisted_plain n = by_command (λ k. plainly_unlisted k ≡ true) n (λ _. refl)
 
 -- a get and a put on one channel, with the table that they leave
 abbrev pub get_leaves : Disk → Table → ℕ → GetOutcome → Outcome
-get_leaves d t i r = outcome (record { status = r.answer.status; count = r.answer.count; disk = d; table = with_state t i r.answer.state; given = []; took = Nothing }) r.buffer
+get_leaves d t i r = outcome (record { status = r.answer.status; count = r.answer.count; disk = d; table = with_state t i r.answer.state; given = []; took = None }) r.buffer
 
 abbrev pub put_leaves : Table → ℕ → Form → List ℕ → PutOutcome → Effect
-put_leaves t i f b r = record { status = r.answer.status; count = reported f b r.answer.count; disk = r.disk; table = with_state t i r.answer.state; given = r.given; took = Nothing }
+put_leaves t i f b r = record { status = r.answer.status; count = reported f b r.answer.count; disk = r.disk; table = with_state t i r.answer.state; given = r.given; took = None }
 
 -- each command
 module _ (g : Geometry) (d : Disk) (t : Table) (c : Block) (text b : List ℕ) where
@@ -362,7 +356,7 @@ module _ (g : Geometry) (d : Disk) (t : Table) (c : Block) (text b : List ℕ) w
   open_write_ends : T (Files Open) write_answers → Ready g d t c Open → c.direction ≡ 8 → A (Files Open) (open_write g d t c.channel text)
   unfolding open_write open_target open_found open_new read_name member
   open_write_ends w r e =
-      let v : Rows g d t c.protected (asks (Files Open)) (λ a. A (Files Open) (open_target g d t c.channel a)) Denied write_answers = record { refusing = w.refusing } in
+      let v : Rows g d t c.protected (asks (Files Open)) (λ a. A (Files Open) (open_target g d t c.channel a)) (λ n. Err (Denied n)) write_answers = record { refusing = w.refusing } in
       target_row v _ (read_plain w refl ending text) refl
       (λ n y f.
       found-row w _ _ refl λ s z.

@@ -7,8 +7,7 @@ use native.Mathlib.Omega.{arith}
 use lib.Dec.{ltb}
 use lib.ListN.{length}
 use Rattle.layout.specs.declared.density.Medium.{Medium}
-use Rattle.layout.specs.declared.Served.{Served}
-use Rattle.layout.specs.declared.Served.TheVariants.{As, Not}
+use Rattle.std.specs.Prelude.{Result, Ok, Err}
 use Rattle.layout.specs.Image.{Geometry, geometry_of, view}
 use Rattle.layout.specs.Header.{served_as}
 use Rattle.layout.specs.File.{in_use, fits}
@@ -36,7 +35,7 @@ enters_true g l s k e =
 
 module _ (l : List ℕ) (s k : ℕ) where
   -- on an image that is served as m
-  module _ (m : Medium) (e : served_as l ≡ As m) where
+  module _ (m : Medium) (e : served_as l ≡ Ok m) where
     pub shows_is : shows l s k ≡ enters (geometry_of m) l s k
     unfolding shows
     shows_is = served_as_lem {A = Bool} (served_as l) _ _ e
@@ -62,9 +61,9 @@ module _ (l : List ℕ) (s k : ℕ) where
   unfolding shown_start shown_length
   shown-none h = go (served_as l) refl
     where
-      go : (v : Served) → served_as l ≡ v → (shown_start l s k ≡ 0) × (shown_length l s k ≡ 0)
-      go (As m) e = let q = sym (shows_is m e) ∙ h in (start-no m e q, length_no m e q)
-      go (Not n) e = (served_not {A = ℕ} (served_as l) _ _ e, served_not {A = ℕ} (served_as l) _ _ e)
+      go : (v : Result Medium ℕ) → served_as l ≡ v → (shown_start l s k ≡ 0) × (shown_length l s k ≡ 0)
+      go (Ok m) e = let q = sym (shows_is m e) ∙ h in (start-no m e q, length_no m e q)
+      go (Err n) e = (served_not {A = ℕ} (served_as l) _ _ e, served_not {A = ℕ} (served_as l) _ _ e)
 
   pub shown-within : shown_start l s k + shown_length l s k ≤ length l
   unfolding shows
@@ -73,10 +72,10 @@ module _ (l : List ℕ) (s k : ℕ) where
       none : shows l s k ≡ false → shown_start l s k + shown_length l s k ≤ length l
       none h = let (a, b) = shown-none h in omega arith
 
-      go : (v : Served) → served_as l ≡ v → (b : Bool) → shows l s k ≡ b → shown_start l s k + shown_length l s k ≤ length l
+      go : (v : Result Medium ℕ) → served_as l ≡ v → (b : Bool) → shows l s k ≡ b → shown_start l s k + shown_length l s k ≤ length l
       go v e false h = none h
-      go (Not n) e true h = none (served_not {A = Bool} (served_as l) _ _ e)
-      go (As m) e true h =
+      go (Err n) e true h = none (served_not {A = Bool} (served_as l) _ _ e)
+      go (Ok m) e true h =
           let q = sym (shows_is m e) ∙ h in
           let w = served_whole l m e in
           let t = enters_true (geometry_of m) l s k q in

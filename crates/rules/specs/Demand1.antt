@@ -1,11 +1,10 @@
 -- Demand 1: every call ends with a status number. A refused call reports no bytes and changes nothing, but for the listed partial transfers.
-use Rattle.std.specs.Prelude.{Bool, true, false, List, [], ◌∷◌, ◌≢◌, ◌↔◌, ◌⊎◌, ◌≡◌, ℕ, ◌+◌, ◌/◌, ◌≤◌, leb, eqb, length, drop}
+use Rattle.std.specs.Prelude.{Bool, true, false, List, [], ◌∷◌, ◌≢◌, ◌↔◌, ◌⊎◌, ◌≡◌, ℕ, ◌+◌, ◌/◌, ◌≤◌, leb, eqb, length, drop, Ok, Err}
 use Rattle.layout.specs.declared.State.{State}
 use Rattle.layout.specs.declared.State.TheVariants.{Closed, Writing}
 use Rattle.layout.specs.declared.Table.{Table}
 use Rattle.layout.specs.declared.Channel.{Channel}
 use Rattle.layout.specs.declared.density.Medium.{Medium}
-use Rattle.layout.specs.declared.Served.TheVariants.{As, Not}
 use Rattle.rules.specs.declared.Block.{Block}
 use Rattle.rules.specs.declared.Form.{Form}
 use Rattle.rules.specs.declared.Form.TheVariants.{Characters, Record}
@@ -129,9 +128,9 @@ pub record Unserved (l : List ℕ) (n : ℕ) : Type 0 where
 
 -- why an image is not served: 203 for any length but those of a raw image and of the two ATR files, 205 for an ATR file whose header does not agree
 pub record Reasons (l : List ℕ) : Type 0 where
-  pub lengths : (served_as l ≡ Not bad_image) ↔ (member (length l) (92160 ∷ 92176 ∷ 183952 ∷ []) ≡ false)
-  pub headers : (served_as l ≡ Not bad_header) ↔ ((m : Medium) × ((m ≡ atr_single) ⊎ (m ≡ atr_double)) × (length l ≡ (geometry_of m).total) × (agrees m l ≡ false))
-  pub only : (n : ℕ) → served_as l ≡ Not n → (n ≡ bad_image) ⊎ (n ≡ bad_header)
+  pub lengths : (served_as l ≡ Err bad_image) ↔ (member (length l) (92160 ∷ 92176 ∷ 183952 ∷ []) ≡ false)
+  pub headers : (served_as l ≡ Err bad_header) ↔ ((m : Medium) × ((m ≡ atr_single) ⊎ (m ≡ atr_double)) × (length l ≡ (geometry_of m).total) × (agrees m l ≡ false))
+  pub only : (n : ℕ) → served_as l ≡ Err n → (n ≡ bad_image) ⊎ (n ≡ bad_header)
 
 -- the partial transfers: get with 136 (file ended) or 164, get record with 137 too, put and put record with 162; close frees its channel even with 164
 unfoldable pub partials : Command → List ℕ
@@ -180,7 +179,7 @@ OnlyEnd st d e given = (s p : ℕ) → st ≡ Writing s p → (k : ℕ) → k �
 
 -- the same of the disks that two images hold, as whichever medium the first is served; the header is sector 0
 abbrev pub OnlyEndOn : State → List ℕ → List ℕ → List ℕ → Type 0
-OnlyEndOn st l after given = (m : Medium) → served_as l ≡ As m → let g = geometry_of m in OnlyEnd st (view g l) (view g after) given
+OnlyEndOn st l after given = (m : Medium) → served_as l ≡ Ok m → let g = geometry_of m in OnlyEnd st (view g l) (view g after) given
 
 -- what a partial transfer leaves, as every get, put and close does
 pub record Transfers : Type 0 where
@@ -199,8 +198,8 @@ pub record Transfers : Type 0 where
 
 -- demand 1: any image of any length, with the notch either way, any channels, command block, name, buffer, slot and channel record
 pub record Demand1 : Type 0 where
-  pub answers : (l : List ℕ) (m : Medium) → served_as l ≡ As m → Answers l
-  pub unserved : (l : List ℕ) (n : ℕ) → served_as l ≡ Not n → Unserved l n
+  pub answers : (l : List ℕ) (m : Medium) → served_as l ≡ Ok m → Answers l
+  pub unserved : (l : List ℕ) (n : ℕ) → served_as l ≡ Err n → Unserved l n
   pub reasons : (l : List ℕ) → Reasons l
   pub headers : (l : List ℕ) (protected : Bool) → member (header_call l protected).reply.status header_answers ≡ true
   pub refusals : Refusals

@@ -1,10 +1,8 @@
 -- Demand 2: on a sound disk, what was written and closed reads back the same, whatever other calls stand between.
-use Rattle.std.specs.Prelude.{Bool, true, false, not, ◌&&◌, ◌||◌, List, [], ◌∷◌, ◌++◌, ◌≢◌, ◌⊎◌, ◌≡◌, ℕ, ◌<◌, min, leb, eqb, length, take, drop}
+use Rattle.std.specs.Prelude.{Bool, true, false, not, ◌&&◌, ◌||◌, List, [], ◌∷◌, ◌++◌, ◌≢◌, ◌⊎◌, ◌≡◌, ℕ, ◌<◌, min, leb, eqb, length, take, drop, Some, Result, Ok}
 use Rattle.layout.specs.declared.State.TheVariants.{Reading, Writing}
 use Rattle.layout.specs.declared.Table.{Table}
-use Rattle.layout.specs.declared.Name.{Name}
-use Rattle.layout.specs.declared.Name.TheVariants.{Is}
-use Rattle.layout.specs.declared.Found.TheVariants.{At}
+use Rattle.layout.specs.declared.FileName.{FileName}
 use Rattle.layout.specs.declared.density.Medium.{Medium}
 use Rattle.rules.specs.declared.Block.{Block}
 use Rattle.rules.specs.declared.Form.{Form}
@@ -18,7 +16,7 @@ use Rattle.layout.specs.Image.{Disk, Geometry, geometry_of}
 use Rattle.layout.specs.Directory.{flag, count, find}
 use Rattle.layout.specs.File.{end_of_line, next, in_use, chain, file}
 use Rattle.layout.specs.Channels.{state_of, open_at}
-use Rattle.layout.specs.Names.{name_byte, read_name, old_name}
+use Rattle.layout.specs.Names.{name_byte, read_name, old_name, file_name}
 use Rattle.layout.specs.Status.{success, end_reached, succeeds, Succeeds, Fails, write_protected, disk_full, end_of_file, truncated}
 use Rattle.rules.specs.Get.{or_end_reached}
 use Rattle.rules.specs.Put.{sent}
@@ -43,8 +41,8 @@ PutAnswers false n = (n ≡ success) ⊎ (n ≡ disk_full)
 PutAnswers true n = n ≡ write_protected
 
 -- the name that was taken apart is found in slot s
-abbrev pub Finds : Disk → Name → ℕ → Type 0
-Finds d n s = (word : ℕ) × (extension : ℕ) × (n ≡ Is word extension) × (find d (name_byte word extension) ≡ At s)
+abbrev pub Finds : Disk → Result FileName ℕ → ℕ → Type 0
+Finds d n s = (word : ℕ) × (extension : ℕ) × (n ≡ Ok (file_name word extension)) × (find d (name_byte word extension) ≡ Some s)
 
 -- channel i writes slot s
 abbrev pub WritesTo : Table → ℕ → ℕ → Type 0

@@ -1,9 +1,7 @@
 -- Lists of calls: each finds what the one before left, on disks and on images.
-use Rattle.std.specs.Prelude.{Bool, List, [], ◌∷◌, ◌≡◌, ℕ, length}
+use Rattle.std.specs.Prelude.{Bool, List, [], ◌∷◌, ◌≡◌, ℕ, length, None, Ok}
 use Rattle.layout.specs.declared.Table.{Table}
 use Rattle.layout.specs.declared.density.Medium.{Medium}
-use Rattle.layout.specs.declared.Served.TheVariants.{As}
-use Rattle.layout.specs.declared.Found.TheVariants.{Nothing}
 use Rattle.rules.specs.declared.Block.{Block}
 use Rattle.rules.specs.declared.FileCommand.TheVariants.{Format}
 use Rattle.rules.specs.declared.Command.TheVariants.{Files}
@@ -55,7 +53,7 @@ module _ {X : Type 0} (m : Machine X) where
 
 -- a recovery leaves the channels, gives out nothing and takes no slot for a new file
 abbrev pub recovering : Recovered → Table → Effect
-recovering r t = record { status = r.reply.status; count = r.reply.count; disk = r.disk; table = t; given = []; took = Nothing }
+recovering r t = record { status = r.reply.status; count = r.reply.count; disk = r.disk; table = t; given = []; took = None }
 
 -- what a call leaves for the next
 abbrev pub after : Effect → System
@@ -82,7 +80,7 @@ pub record ImageTable : Type 0 where
 
 -- a recovery on an image leaves the channels, gives out nothing and takes no slot for a new file
 abbrev pub recovering_on : ImageRecovered → Table → ImageOutcome
-recovering_on r t = record { answer = record { status = r.reply.status; count = r.reply.count; table = t }; image = r.image; buffer = []; given = []; took = Nothing }
+recovering_on r t = record { answer = record { status = r.reply.status; count = r.reply.count; table = t }; image = r.image; buffer = []; given = []; took = None }
 
 -- a call on an image, as the contracts of the two functions have it
 unfoldable pub outcome_on : Call → ImageTable → ImageOutcome
@@ -108,7 +106,7 @@ module _ (g : Geometry) where
 
 -- an image that is served as this medium
 abbrev pub IsServed : Medium → ImageTable → Type 0
-IsServed m x = served_as x.image ≡ As m
+IsServed m x = served_as x.image ≡ Ok m
 
 -- and whose disk with its channels is sound
 pub record SoundImage (m : Medium) (x : ImageTable) : Type 0 where

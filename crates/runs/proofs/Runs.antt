@@ -1,21 +1,13 @@
--- Runs of bytes: the turns of a copy, and what it writes to a sector or reads from it.
+-- Runs of bytes: parts of a copy, and what it writes to a sector or reads from it.
 use mathlib.Core.List.{List, [], ◌∷◌}
 use mathlib.Core.Path.{◌≡◌, refl, ap, ◌∙◌}
 use Prim.Native.Nat.{ℕ, suc, zero, ◌+◌, ◌≤◌, ◌<◌}
 use native.Mathlib.Nat.{add-zero}
-use native.Mathlib.Numerals.{add-one}
 use native.Mathlib.Omega.{arith}
-use lib.ListN.{length, get_or, take, drop, set, length-set, drop_of_length-le}
-use lib.Seq.{drop-cons, sets, set-set, set_comm}
+use lib.ListN.{length, get_or, take, drop, set, length-set}
+use lib.Seq.{sets, set-set, set_comm}
 use Rattle.layout.specs.Image.{Geometry, view, write_run}
 use Rattle.layout.proofs.Image.{Lawful, view_set}
-
--- a turn of a copy stores one byte more, and behind the last nothing is left to store
-pub sets_next : (l : List ℕ) (i j : ℕ) (xs : List ℕ) → j < length xs → sets l (i + j) (drop j xs) ≡ sets (set l (i + j) (get_or xs j 0)) (i + (j + 1)) (drop (j + 1) xs)
-sets_next l i j xs h = let e : i + suc j ≡ suc (i + j) = omega arith in rw (drop-cons xs j 0 h, add-one j, e)
-
-pub sets_end : (l : List ℕ) (i j : ℕ) (xs : List ℕ) → length xs ≤ j → sets l i (drop j xs) ≡ l
-sets_end l i j xs h = rw (drop_of_length-le xs h)
 
 -- the bytes up to one more, stored, are that one stored behind the others
 pub sets_last : (xs l : List ℕ) (i n : ℕ) → n < length xs → set (sets l i (take n xs)) (i + n) (get_or xs n 0) ≡ sets l i (take (suc n) xs)

@@ -12,10 +12,9 @@ fn copy_first(to: &mut [u8], at: usize, from: &[u8], n: usize)
     requires { (at + n ≤ length to.old) × (n ≤ length from.now) }
     ensures { to.new ≡ sets to.old at (take n from.now) }
 {
-    let mut j: usize = 0;
-    while j < n {
+    // No `copy_from_slice`: of 125 bytes that is a call, and of 64 or 128 as many moves of a byte beside the wide ones.
+    for j in 0..n {
         to[at + j] = from[j];
-        j += 1;
     }
 }
 
@@ -60,7 +59,7 @@ pub fn copy(to: &mut [u8], at: usize, from: &[u8])
     }
 }
 
-// The same, where all bytes of a sector are mostly wanted: 128 of them, or 256.
+// The same, where all bytes of a sector are mostly wanted: 128 of them, or 256. By itself: each of the two compares a length with two constants, and cuts it otherwise.
 pub fn copy_sector(to: &mut [u8], at: usize, from: &[u8])
     requires { at + length from.now ≤ length to.old }
     ensures { to.new ≡ sets to.old at from.now }

@@ -2,7 +2,7 @@
 ghost use Rattle.std.specs.Prelude.{◌≡◌, ◌+◌, ◌≤◌, ◌<◌, length};
 ghost use Rattle.std.proofs.lemmas.List.Edits.{sets};
 ghost use Rattle.layout.specs.Basics.{values_from};
-ghost use Rattle.layout.specs.Image.{Whole, geometry_of, view, write_run};
+ghost use Rattle.layout.specs.Image.{Whole, geometry_of, disk, write_run};
 
 use super::copy::copy;
 use image::bytes::start;
@@ -11,7 +11,7 @@ use layout::density::Medium;
 // The bytes of `from` written to a sector, from `place` on.
 pub fn write_run(m: Medium, image: &mut [u8], sector: u16, place: usize, from: &[u8])
     requires { Whole m image.old × (4 ≤ sector) × (sector ≤ 720) × (place + length from.now ≤ (geometry_of m).size sector) }
-    ensures { view (geometry_of m) image.new ≡ write_run (view (geometry_of m) image.old) sector place from.now }
+    ensures { disk m image.new ≡ write_run (disk m image.old) sector place from.now }
 {
     let first = start(m, sector) + place;
     copy(image, first, from);
@@ -28,28 +28,18 @@ pub fn get_run(
     at: usize,
 )
     requires { Whole m image.now × (4 ≤ sector) × (sector ≤ 720) × (place + n ≤ (geometry_of m).size sector) × (at + n ≤ length buffer.old) }
-    ensures { buffer.new ≡ sets buffer.old at (values_from (view (geometry_of m) image.now sector) n place) }
+    ensures { buffer.new ≡ sets buffer.old at (values_from (disk m image.now sector) n place) }
 {
     let first = start(m, sector) + place;
     let end = first + n;
     copy(buffer, at, &image[first..end]);
 }
 
-// All data bytes of the sector that starts at `start`.
+// All data bytes of the sector that starts at `start`. By itself: their number is the density's, a constant where that is one, and no start is worked out.
 pub fn get_data(m: Medium, image: &[u8], sector: u16, start: usize, buffer: &mut [u8], at: usize)
     requires { Whole m image.now × (4 ≤ sector) × (sector ≤ 720) × (start ≡ (geometry_of m).start sector) × (at + m.density.room ≤ length buffer.old) }
-    ensures { buffer.new ≡ sets buffer.old at (values_from (view (geometry_of m) image.now sector) m.density.room 0) }
+    ensures { buffer.new ≡ sets buffer.old at (values_from (disk m image.now sector) m.density.room 0) }
 {
     let end = start + m.density.room;
     copy(buffer, at, &image[start..end]);
-}
-
-// The lesser of two numbers: a run ends where the sector's bytes or the buffer's do.
-pub fn least(a: usize, b: usize) -> usize
-    ensures { (result ≤ a) × (result ≤ b) × (0 < a → 0 < b → 0 < result) }
-{
-    if a < b {
-        return a;
-    }
-    b
 }

@@ -1,6 +1,6 @@
-// Eight bytes, or three, as one number: written as a sum, they are one load.
+// Eight bytes, or three, as one number.
 ghost use Rattle.std.specs.Prelude.{◌≡◌, ◌+◌, ◌*◌, ◌/◌, ◌%◌, ◌≤◌, ◌<◌, length, get_or};
-ghost use Rattle.layout.specs.Image.{Whole, geometry_of, view};
+ghost use Rattle.layout.specs.Image.{Whole, geometry_of, disk};
 ghost use Rattle.layout.specs.Directory.{name};
 ghost use Rattle.layout.specs.Names.{as_word};
 ghost use Rattle.runs.specs.Words.{bytes_from, map_from, extension};
@@ -9,48 +9,37 @@ use image::bytes::start;
 use image::slot::slot_start;
 use layout::density::Medium;
 
-// A byte as a number of eight.
-fn wide(x: u8) -> u64
-    ensures { (result ≡ x) × (result < 256) }
-{
-    x as u64
-}
-
-// The byte at i.
-fn wide_at(s: &[u8], i: usize) -> u64
-    requires { i < length s.now }
-    ensures { (result ≡ get_or s.now i 0) × (result < 256) }
-{
-    wide(s[i])
-}
-
-// Three bytes from i on, the first of them lowest.
-fn word3(s: &[u8], i: usize) -> u64
-    requires { i + 3 ≤ length s.now }
-    ensures { result ≡ as_word (bytes_from s.now i) 3 }
-{
-    wide_at(s, i) + 256 * wide_at(s, i + 1) + 65536 * wide_at(s, i + 2)
-}
-
-// Eight of them.
+// Eight bytes from i on, the first of them lowest.
+#[tactic(auto, using(crate::proofs::Packed::packed_eight))]
 fn word8(s: &[u8], i: usize) -> u64
     requires { i + 8 ≤ length s.now }
     ensures { result ≡ as_word (bytes_from s.now i) 8 }
 {
-    wide_at(s, i)
-        + 256 * wide_at(s, i + 1)
-        + 65536 * wide_at(s, i + 2)
-        + 16777216 * wide_at(s, i + 3)
-        + 4294967296 * wide_at(s, i + 4)
-        + 1099511627776 * wide_at(s, i + 5)
-        + 281474976710656 * wide_at(s, i + 6)
-        + 72057594037927936 * wide_at(s, i + 7)
+    u64::from_le_bytes([
+        s[i],
+        s[i + 1],
+        s[i + 2],
+        s[i + 3],
+        s[i + 4],
+        s[i + 5],
+        s[i + 6],
+        s[i + 7],
+    ])
+}
+
+// Three of them.
+#[tactic(auto, using(crate::proofs::Packed::packed_three))]
+fn word3(s: &[u8], i: usize) -> u64
+    requires { i + 3 ≤ length s.now }
+    ensures { result ≡ as_word (bytes_from s.now i) 3 }
+{
+    u64::from_le_bytes([s[i], s[i + 1], s[i + 2], 0, 0, 0, 0, 0])
 }
 
 // The eight name bytes of the slot that starts at `at`.
 pub fn slot_name_at(m: Medium, image: &[u8], slot: u16, at: usize) -> u64
     requires { Whole m image.now × (slot < 64) × (at ≡ (geometry_of m).start (361 + slot / 8) + slot % 8 * 16) }
-    ensures { result ≡ as_word (name (view (geometry_of m) image.now) slot) 8 }
+    ensures { result ≡ as_word (name (disk m image.now) slot) 8 }
 {
     word8(image, at + 5)
 }
@@ -58,7 +47,7 @@ pub fn slot_name_at(m: Medium, image: &[u8], slot: u16, at: usize) -> u64
 // The three bytes of its extension.
 pub fn slot_extension_at(m: Medium, image: &[u8], slot: u16, at: usize) -> u64
     requires { Whole m image.now × (slot < 64) × (at ≡ (geometry_of m).start (361 + slot / 8) + slot % 8 * 16) }
-    ensures { result ≡ as_word (extension (view (geometry_of m) image.now) slot) 3 }
+    ensures { result ≡ as_word (extension (disk m image.now) slot) 3 }
 {
     word3(image, at + 13)
 }
@@ -66,7 +55,7 @@ pub fn slot_extension_at(m: Medium, image: &[u8], slot: u16, at: usize) -> u64
 // The eight name bytes of a slot.
 pub fn slot_name(m: Medium, image: &[u8], slot: u16) -> u64
     requires { Whole m image.now × (slot < 64) }
-    ensures { result ≡ as_word (name (view (geometry_of m) image.now) slot) 8 }
+    ensures { result ≡ as_word (name (disk m image.now) slot) 8 }
 {
     slot_name_at(m, image, slot, slot_start(m, slot))
 }
@@ -74,7 +63,7 @@ pub fn slot_name(m: Medium, image: &[u8], slot: u16) -> u64
 // The three bytes of its extension.
 pub fn slot_extension(m: Medium, image: &[u8], slot: u16) -> u64
     requires { Whole m image.now × (slot < 64) }
-    ensures { result ≡ as_word (extension (view (geometry_of m) image.now) slot) 3 }
+    ensures { result ≡ as_word (extension (disk m image.now) slot) 3 }
 {
     slot_extension_at(m, image, slot, slot_start(m, slot))
 }
@@ -82,7 +71,7 @@ pub fn slot_extension(m: Medium, image: &[u8], slot: u16) -> u64
 // Eight map bytes, from byte i of the map on.
 pub fn map_word(m: Medium, image: &[u8], i: usize) -> u64
     requires { Whole m image.now × (i ≤ 82) }
-    ensures { result ≡ as_word (map_from (view (geometry_of m) image.now 360) i) 8 }
+    ensures { result ≡ as_word (map_from (disk m image.now 360) i) 8 }
 {
     word8(image, start(m, 360) + (10 + i))
 }

@@ -1,33 +1,17 @@
--- A request's sector, where the first three lie, and a sector read or written as a whole.
-use mathlib.Core.Bool.{true, ◌&&◌, ◌||◌}
+-- Where the first three sectors lie, and a sector read or written as a whole.
 use mathlib.Core.List.{List, append-nil}
 use mathlib.Core.Path.{◌≡◌, sym, ap, ◌∙◌}
 use Prim.Native.Nat.{ℕ, ◌+◌, ◌-◌, ◌*◌, ◌≤◌, ◌<◌}
 use native.Mathlib.Nat.{zero-add}
 use native.Mathlib.Omega.{arith}
-use lib.Dec.{leb, eqb}
 use lib.ListN.{length, take, drop}
 use lib.Seq.{sets, sets-eq, drop-length}
-use borrow.Author.Tests.{leb-true}
 use Rattle.layout.specs.declared.density.Medium.{Medium}
 use Rattle.layout.specs.Basics.{values_from}
 use Rattle.layout.specs.Image.{Geometry, Regular, geometry_of, view, write_run}
 use Rattle.layout.proofs.Image.{Lawful, start_boot, size_boot, values_length}
 use Rattle.layout.proofs.Run.{part_values}
 use Rattle.runs.proofs.Runs.{view_sets}
-use Rattle.rules.specs.Sectors.{is_write, is_request}
-use Rattle.layout.proofs.Logic.{and_left, and_right}
-
--- a request names a sector of the disk
-pub record Request (k : ℕ) : Type 0 where
-  pub low : 1 ≤ k
-  pub high : k ≤ 720
-
-pub request_sector : (command k : ℕ) → is_request command k ≡ true → Request k
-unfolding is_request
-request_sector command k e =
-    let r = and_right (eqb command 0x52 || is_write command) (leb 1 k && leb k 720) e in
-    record { low = leb-true 1 k (and_left (leb 1 k) (leb k 720) r); high = leb-true k 720 (and_right (leb 1 k) (leb k 720) r) }
 
 -- a list with all its elements stored anew is those
 pub sets_whole : (l vs : List ℕ) → length vs ≡ length l → sets l 0 vs ≡ vs

@@ -1,7 +1,7 @@
 // Where a sector lies, the first three included, which have 128 bytes in every density.
 ghost use Rattle.std.specs.Prelude.{◌≡◌, ◌+◌, ◌≤◌, length};
 ghost use Rattle.layout.specs.Basics.{values_from};
-ghost use Rattle.layout.specs.Image.{Regular, Whole, geometry_of, view, write_run};
+ghost use Rattle.layout.specs.Image.{Regular, Whole, geometry_of, disk, write_run};
 
 use image::bytes::start;
 use layout::density::{Density, Medium};
@@ -32,7 +32,7 @@ pub fn sector_size(m: Medium, sector: u16) -> usize
 // All bytes of a sector, in a buffer of that length.
 pub fn read(m: Medium, image: &[u8], sector: u16, buffer: &mut [u8])
     requires { Whole m image.now × (1 ≤ sector) × (sector ≤ 720) × (length buffer.old ≡ (geometry_of m).size sector) }
-    ensures { buffer.new ≡ values_from (view (geometry_of m) image.now sector) ((geometry_of m).size sector) 0 }
+    ensures { buffer.new ≡ values_from (disk m image.now sector) ((geometry_of m).size sector) 0 }
 {
     let first = sector_start(m, sector);
     let end = first + buffer.len();
@@ -42,7 +42,7 @@ pub fn read(m: Medium, image: &[u8], sector: u16, buffer: &mut [u8])
 // All of them written.
 pub fn write(m: Medium, image: &mut [u8], sector: u16, buffer: &[u8])
     requires { Whole m image.old × (1 ≤ sector) × (sector ≤ 720) × (length buffer.now ≡ (geometry_of m).size sector) }
-    ensures { view (geometry_of m) image.new ≡ write_run (view (geometry_of m) image.old) sector 0 buffer.now }
+    ensures { disk m image.new ≡ write_run (disk m image.old) sector 0 buffer.now }
 {
     let first = sector_start(m, sector);
     copy_sector(image, first, buffer);

@@ -6,7 +6,6 @@ ghost use Rattle.rules.specs.Showing.{enters, shows, shown_start, shown_length, 
 use files::chain::fits;
 use image::bytes::start;
 use image::link::in_use;
-use layout::Served;
 use layout::density::Medium;
 use media::served_as;
 
@@ -15,24 +14,20 @@ pub fn enters(m: Medium, image: &[u8], slot: u16, sector: u16) -> bool
     requires { Whole m image.now }
     ensures { result ≡ enters (geometry_of m) image.now slot sector }
 {
-    if 64 <= slot {
-        return false;
-    }
-    fits(m, image, slot, sector)
+    slot < 64 && fits(m, image, slot, sector)
 }
 
 // The same of any image.
 pub fn shows(image: &[u8], slot: u16, sector: u16) -> bool
     ensures { result ≡ shows image.now slot sector }
 {
-    let v = served_as(image);
-    let Served::As(m) = v else {
+    let Ok(m) = served_as(image) else {
         return false;
     };
     enters(m, image, slot, sector)
 }
 
-// The part that is shown: where it starts, and how many bytes it has. It is empty and at the image's start where the answer is no.
+// The part that is shown: where it starts, and how many bytes it has. It is empty and at the image's start where the answer is no, as `shown_start` and `shown_length` of the rules have it.
 #[derive(Clone, Copy)]
 struct Part {
     start: usize,
@@ -42,8 +37,7 @@ struct Part {
 fn shown_part(image: &[u8], slot: u16, sector: u16) -> Part
     ensures { (result.start ≡ shown_start image.now slot sector) × (result.len ≡ shown_length image.now slot sector) }
 {
-    let v = served_as(image);
-    let Served::As(m) = v else {
+    let Ok(m) = served_as(image) else {
         return Part { start: 0, len: 0 };
     };
     if !enters(m, image, slot, sector) {

@@ -8,7 +8,7 @@ use lib.ListN.{length}
 use Rattle.layout.specs.declared.State.{State}
 use Rattle.layout.specs.declared.Table.{Table}
 use Rattle.layout.specs.declared.density.Medium.{Medium}
-use Rattle.layout.specs.declared.Served.TheVariants.{As}
+use Rattle.std.specs.Prelude.{Ok}
 use Rattle.rules.specs.declared.Form.{Form}
 use Rattle.rules.specs.declared.Form.TheVariants.{Characters, Record}
 use Rattle.rules.specs.declared.Place.{Place}
@@ -115,7 +115,7 @@ module _ (g : Geometry) (d : Disk) where
       P o = Among sector_answers o.reply.status
 
 -- no call on an image that is served answers anything else
-pub all_answers : (l : List ℕ) (m : Medium) → served_as l ≡ As m → Answers l
+pub all_answers : (l : List ℕ) (m : Medium) → served_as l ≡ Ok m → Answers l
 unfolding outcome_of
 all_answers l m w = let g = geometry_of m in let d = view g l in record {
   calls = λ t c text b. rw (cio-on l m w t c text b) (call_answers g d (ends g (cio_of c text b) (record { disk = d; table = t })));

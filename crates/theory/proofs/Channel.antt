@@ -9,8 +9,8 @@ use native.Mathlib.Omega.{arith}
 use lib.ListN.{length, get_or-eq_default}
 use Rattle.layout.specs.declared.State.{State}
 use Rattle.layout.specs.declared.State.TheVariants.{Closed, Reading, Writing}
-use Rattle.layout.specs.declared.Found.TheVariants.{At}
-use Rattle.layout.specs.declared.Name.{Name}
+use Rattle.std.specs.Prelude.{Some, Result}
+use Rattle.layout.specs.declared.FileName.{FileName}
 use Rattle.layout.specs.declared.Table.{Table}
 use Rattle.rules.specs.declared.Block.{Block}
 use Rattle.rules.specs.declared.Form.{Form}
@@ -24,6 +24,7 @@ use Rattle.layout.specs.Names.{read_name, old_name}
 use Rattle.layout.specs.Status.{Fails, write_protected}
 use Rattle.layout.proofs.Channels.{state-other, Holding, reads, writes, holding, holds_open}
 use Rattle.layout.proofs.Search.{any_at}
+use Rattle.layout.proofs.Tells.{same_words}
 use Rattle.rules.specs.Cio.{Outcome, Asks}
 use Rattle.rules.specs.Lists.{Call, cio_of, recovery_of, System, perform, outcome_of}
 use Rattle.rules.specs.Sound.{Sound}
@@ -81,12 +82,12 @@ unfolding state_of
 past t j e h = ap (λ c. c.state) (get_or-eq_default t.channels (channel Closed) (omega arith))
 
 -- the name that was read is found in slot x
-module _ (d : Disk) (x : ℕ) {n : Name} (r : Told n) where
-  found_there : Finds d n x → find d (bytes r) ≡ At x
-  found_there (u, w, q, f) = let e = r.read in let (h, k) : (r.word ≡ u) × (r.extension ≡ w) = (cc, cc) in rw (h, k) f
+module _ (d : Disk) (x : ℕ) {n : Result FileName ℕ} (r : Told n) where
+  found_there : Finds d n x → find d (bytes r) ≡ Some x
+  found_there (u, w, q, f) = let (h, k) = same_words (sym r.read ∙ q) in rw (h, k) f
 
   -- then it is the slot found
-  pub found_is : Finds d n x → {s : ℕ} → find d (bytes r) ≡ At s → s ≡ x
+  pub found_is : Finds d n x → {s : ℕ} → find d (bytes r) ≡ Some s → s ≡ x
   found_is k f = let h = found_there k in cc
 
 -- channel i holds slot x
@@ -105,7 +106,7 @@ module _ (g : Geometry) (d : Disk) (t : Table) (a : Sound g d t) (i : ℕ) (z : 
   some_open = any_at (open_at t) 8 i z is_open_lem
 
   -- a slot found under a name that is found in slot x is not free to change
-  not_free : {n : Name} {s : ℕ} → Aimed g d t n s → held d t s ≡ false → Finds d n x → ⊥
+  not_free : {n : Result FileName ℕ} {s : ℕ} → Aimed g d t n s → held d t s ≡ false → Finds d n x → ⊥
   not_free h u k = true≢false (sym is_held ∙ ap (held d t) (sym (found_is d x h.told k h.at)) ∙ u)
 
   -- no other channel writes it

@@ -3,8 +3,8 @@ use mathlib.Core.List.{List}
 use mathlib.Core.Logic.{◌⊎◌, inl, inr}
 use mathlib.Core.Path.{◌≡◌, refl}
 use Prim.Native.Nat.{ℕ}
-use Rattle.layout.specs.declared.Served.{Served}
-use Rattle.layout.specs.declared.Served.TheVariants.{As, Not}
+use Rattle.std.specs.Prelude.{Result, Ok, Err}
+use Rattle.layout.specs.declared.density.Medium.{Medium}
 use Rattle.layout.specs.Header.{served_as}
 use Rattle.layout.specs.Status.{bad_image, bad_header}
 use Rattle.rules.specs.Demand1.{Answers, Unserved, Demand1}
@@ -24,6 +24,6 @@ on_any Q p q l {status = status} on off = go (served_as l) refl
     refused n (inl e) = rw e p
     refused n (inr e) = rw e q
 
-    go : (v : Served) → served_as l ≡ v → Q status
-    go (As m) e = on (demand1.answers l m e)
-    go (Not n) e = rw (off n (demand1.unserved l n e)) (refused n ((demand1.reasons l).only n e))
+    go : (v : Result Medium ℕ) → served_as l ≡ v → Q status
+    go (Ok m) e = on (demand1.answers l m e)
+    go (Err n) e = rw (off n (demand1.unserved l n e)) (refused n ((demand1.reasons l).only n e))

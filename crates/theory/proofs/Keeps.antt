@@ -7,8 +7,8 @@ use Prim.Native.Nat.{ℕ, ◌+◌, ◌<◌}
 use native.Mathlib.Decide.{ℕ_discrete}
 use native.Mathlib.Omega.{arith}
 use Rattle.layout.specs.declared.State.TheVariants.{Writing}
-use Rattle.layout.specs.declared.Found.TheVariants.{At}
-use Rattle.layout.specs.declared.Name.{Name}
+use Rattle.std.specs.Prelude.{Some, Result}
+use Rattle.layout.specs.declared.FileName.{FileName}
 use Rattle.layout.specs.declared.Table.{Table}
 use Rattle.rules.specs.declared.Block.{Block}
 use Rattle.rules.specs.declared.Form.{Form}
@@ -65,15 +65,15 @@ module _ (g : Geometry) (d : Disk) (t : Table) (a : Sound g d t) (x : ℕ) (v : 
       go (no n) = beside (write_flag d s f) s (chain g d s) c n
 
   -- a lock or an unlock of a file that is not held
-  relocked : (change : ℕ → ℕ → ℕ) → ((f : ℕ) → Plain f → Plain (change f 5)) → {n : Name} {s : ℕ} → Aimed g d t n s → held d t s ≡ false → Both g d (write_flag d s (change (flag d s) 5)) x
+  relocked : (change : ℕ → ℕ → ℕ) → ((f : ℕ) → Plain f → Plain (change f 5)) → {n : Result FileName ℕ} {s : ℕ} → Aimed g d t n s → held d t s ≡ false → Both g d (write_flag d s (change (flag d s) 5)) x
   relocked change p {s = s} h u =
       let w = aimed-stands g d t h in
       let (m, n, r, _) = plain_sound (change (flag d s) 5) (p (flag d s) (plain_here g d t a s w u)) in
       flagged s (change (flag d s) 5) w m n r
 
   -- the slot found is x where these are the same
-  mine : {n : Name} {s : ℕ} → Aimed g d t n s → x ≡ s → Finds d n x
-  mine h e = let r = h.told in (r.word, r.extension, r.read, h.at ∙ ap At (sym e))
+  mine : {n : Result FileName ℕ} {s : ℕ} → Aimed g d t n s → x ≡ s → Finds d n x
+  mine h e = let r = h.told in (r.word, r.extension, r.read, h.at ∙ ap Some (sym e))
 
   -- a rename leaves the file, and its name unless the old name was found in slot x
   renamed : {c : Block} {text : List ℕ} {s : ℕ} (h : Renames g d t c text s) → let e = write_name d s (bytes h.told) in Stays g d e x × ((Finds d (old_name text) x → ⊥) → Named d e x)

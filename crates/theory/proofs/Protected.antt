@@ -8,7 +8,7 @@ use native.Mathlib.Omega.{arith}
 use lib.Dec.{eqb}
 use Rattle.layout.specs.declared.State.{State}
 use Rattle.layout.specs.declared.Table.{Table}
-use Rattle.layout.specs.declared.Served.TheVariants.{Not}
+use Rattle.std.specs.Prelude.{Err}
 use Rattle.rules.specs.declared.Form.{Form}
 use Rattle.rules.specs.declared.Form.TheVariants.{Characters, Record}
 use Rattle.rules.specs.declared.Block.{Block}
@@ -177,7 +177,7 @@ module _ (g : Geometry) (d : Disk) where
       P o = Other o.reply.status
 
 -- nor do 203 and 205
-unserved-other : (l : List ℕ) (n : ℕ) → served_as l ≡ Not n → Other n
+unserved-other : (l : List ℕ) (n : ℕ) → served_as l ≡ Err n → Other n
 unserved-other l = unserved-apart l write_protected (λ e. omega arith) (λ e. omega arith)
 
 pub only_protected : OnlyProtected

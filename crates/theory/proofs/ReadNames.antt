@@ -8,10 +8,10 @@ use native.Mathlib.Decide.{dec_lt}
 use native.Mathlib.Omega.{arith}
 use lib.Dec.{eqb, ltb}
 use borrow.Author.Tests.{eqb-true, eqb-false, ne_eqb, lt-ltb, le-ltb}
-use Rattle.layout.specs.declared.Name.{Name}
-use Rattle.layout.specs.declared.Name.TheVariants.{Is, Refused}
+use Rattle.std.specs.Prelude.{Result, Ok, Err}
+use Rattle.layout.specs.declared.FileName.{FileName}
 use Rattle.layout.specs.Basics.{if, check, first_from}
-use Rattle.layout.specs.Names.{char, capital_d, one, colon, point, blank, letter, digit, plain, ending, comma, has_device, has_unit, body, not_plain, name_end, whole_end, well_formed, padded, name_at, read_as, read_name, parse_name, old_name, new_name, read_device}
+use Rattle.layout.specs.Names.{char, capital_d, one, colon, point, blank, letter, digit, plain, ending, comma, has_device, has_unit, body, not_plain, name_end, whole_end, well_formed, padded, name_at, read_as, read_name, parse_name, old_name, new_name, read_device, file_name}
 use Rattle.layout.specs.Status.{bad_device, bad_unit, bad_name, success}
 use Rattle.layout.proofs.Logic.{and_left, and_right}
 use Rattle.layout.proofs.Search.{first-least, first_until}
@@ -23,11 +23,11 @@ use Rattle.theory.proofs.Spelling.{legal_fields, has_spelling}
 
 -- What was answered before the request, and what is now.
 
-all_refused : (n : ℕ) → NameKept (Refused n) (Refused n) (Refused n)
+all_refused : (n : ℕ) → NameKept (Err n) (Err n) (Err n)
 all_refused n = record { accepted = λ _ _ h. h; ended = λ _ _ h. h; only = λ _ _ h. inl h; refused = λ _ h. h; gained = λ _ _ _ _ h. absurd (refused_not h) }
 
 -- a letter first, an ending byte of before, a blank: the name or its refusal by each reader
-formed : (word extension : ℕ) (l old b : Bool) → let n = Is word extension in let r = Refused bad_name in NameKept (if (l && old) n r) (if (l && b) n r) (if (l && (old || b)) n r)
+formed : (word extension : ℕ) (l old b : Bool) → let n : Result FileName ℕ = Ok (file_name word extension) in let r : Result FileName ℕ = Err bad_name in NameKept (if (l && old) n r) (if (l && b) n r) (if (l && (old || b)) n r)
 formed word extension false old b = all_refused bad_name
 formed word extension true false false = all_refused bad_name
 formed word extension true false true = record { accepted = λ _ _ h. absurd (refused_not h); ended = λ _ _ h. h; only = λ _ _ h. inr h; refused = λ _ h. absurd (refused_not (sym h)); gained = λ _ _ _ h _. cc }
@@ -42,8 +42,8 @@ names-kept : (text : List ℕ) → NameKept (read_as ended_before text) (read_as
 unfolding read_name read_as check
 names-kept text = go (not (has_device text)) (not (has_unit text))
   where
-    rows : Bool → Bool → (ℕ → Bool) → Name
-    rows b c ends = elim b [ true ↦ Refused bad_device | false ↦ elim c [ true ↦ Refused bad_unit | false ↦ name_at ends text (body text) ] ]
+    rows : Bool → Bool → (ℕ → Bool) → Result FileName ℕ
+    rows b c ends = elim b [ true ↦ Err bad_device | false ↦ elim c [ true ↦ Err bad_unit | false ↦ name_at ends text (body text) ] ]
 
     go : (b c : Bool) → NameKept (rows b c ended_before) (rows b c is_blank) (rows b c ending)
     go true c = all_refused bad_device
@@ -113,12 +113,12 @@ module _ (text : List ℕ) (device : has_device text ≡ true) (unit : has_unit 
       go (no l) = in_name text (body text) x (omega arith) h
 
 -- what a name that begins at i shows: a letter first, and one of these bytes at its end
-module _ (ends : ℕ → Bool) (text : List ℕ) (i word extension : ℕ) (h : name_at ends text i ≡ Is word extension) where
+module _ (ends : ℕ → Bool) (text : List ℕ) (i word extension : ℕ) (h : name_at ends text i ≡ Ok (file_name word extension)) where
   well_formed_lem : well_formed ends text i ≡ true
   unfolding name_at
   well_formed_lem = go (well_formed ends text i) refl _ _ h
     where
-      go : (b : Bool) → well_formed ends text i ≡ b → (u v : ℕ) → if b (Is u v) (Refused bad_name) ≡ Is word extension → well_formed ends text i ≡ true
+      go : (b : Bool) → well_formed ends text i ≡ b → (u v : ℕ) → if b (Ok (file_name u v)) (Err bad_name) ≡ Ok (file_name word extension) → well_formed ends text i ≡ true
       go true e u v r = e
       go false e u v r = absurd (refused_not r)
 
@@ -131,7 +131,7 @@ module _ (ends : ℕ → Bool) (text : List ℕ) (i word extension : ℕ) (h : n
   ends_right = and_right (letter (char text i)) (ends (char text (whole_end text i))) well_formed_lem
 
 module _ (text : List ℕ) (word extension : ℕ) where
-  pub first-ending : read_name text ≡ Is word extension → FirstEnding text (whole_end text (body text))
+  pub first-ending : read_name text ≡ Ok (file_name word extension) → FirstEnding text (whole_end text (body text))
   unfolding read_name ending
   first-ending h = record { inside = passes_inside text p ending refl here; here = here; first = before_place text a.device a.unit }
     where
@@ -145,7 +145,7 @@ module _ (text : List ℕ) (word extension : ℕ) where
       here = ends_right ending text (body text) word extension a.named
 
   -- the first of rename's two names
-  first-name : old_name text ≡ Is word extension → let p = whole_end text (body text) in (char text p ≡ 44) × ((x : ℕ) → x < p → ending (char text x) ≡ false)
+  first-name : old_name text ≡ Ok (file_name word extension) → let p = whole_end text (body text) in (char text p ≡ 44) × ((x : ℕ) → x < p → ending (char text x) ≡ false)
   unfolding old_name comma
   first-name h = let a = read_accepted comma text word extension h in (eqb-true (char text (whole_end text (body text))) 44 (ends_right comma text (body text) word extension a.named), before_place text a.device a.unit)
 
@@ -204,7 +204,7 @@ module _ (text other : List ℕ) where
         rw (name-end-alike, whole_end-alike, f i l, f p (omega arith), packed_same (padded other i e) (padded text i e) 8 (λ j _. padded-alike i e (λ x h. f x (omega arith)) j), packed_same (padded other (e + 1) p) (padded text (e + 1) p) 3 (λ j _. padded-alike (e + 1) p (λ x h. f x (omega arith)) j))
 
   -- the whole text, which was accepted
-  module _ (word extension : ℕ) (read : read_name text ≡ Is word extension) (f : Alike (whole_end text (body text))) where
+  module _ (word extension : ℕ) (read : read_name text ≡ Ok (file_name word extension)) (f : Alike (whole_end text (body text))) where
     accepted : Accepted ending text word extension
     unfolding read_name
     accepted = read_accepted ending text word extension read

@@ -6,7 +6,7 @@ use Prim.Native.Nat.{ℕ}
 use Rattle.layout.specs.declared.State.{State}
 use Rattle.layout.specs.declared.Table.{Table}
 use Rattle.layout.specs.declared.density.Medium.{Medium}
-use Rattle.layout.specs.declared.Served.TheVariants.{As}
+use Rattle.std.specs.Prelude.{Ok}
 use Rattle.rules.specs.declared.Place.{Place}
 use Rattle.rules.specs.declared.Form.{Form}
 use Rattle.rules.specs.declared.Form.TheVariants.{Characters, Record}
@@ -120,7 +120,7 @@ module _ (g : Geometry) (d : Disk) where
   call_kept (restores s p) h = absurd (h refl)
 
 -- the same of the image that holds the disk
-pub unchanged : (l : List ℕ) (m : Medium) (w : served_as l ≡ As m) (t : Table) (b : List ℕ) (o : Outcome) → Kept (view (geometry_of m) l) t b o → Unchanged l t b (leaves (geometry_of m) l o)
+pub unchanged : (l : List ℕ) (m : Medium) (w : served_as l ≡ Ok m) (t : Table) (b : List ℕ) (o : Outcome) → Kept (view (geometry_of m) l) t b o → Unchanged l t b (leaves (geometry_of m) l o)
 unchanged l m w t b o u = record { count = u.count; image = kept-image l m w _ u.disk; table = u.table; buffer = u.buffer }
 
 -- 203, 205 and a refusal of the call on the disk alike

@@ -10,7 +10,7 @@ use lib.ListN.{length, take, drop}
 use borrow.Author.Tests.{eqb-true, eq-eqb, leb-true, le-leb, not-false}
 use Rattle.layout.specs.Basics.{values_from}
 use Rattle.layout.specs.declared.density.Medium.{Medium}
-use Rattle.layout.specs.declared.Served.TheVariants.{As}
+use Rattle.std.specs.Prelude.{Ok}
 use Rattle.layout.specs.Image.{Sector, Disk, Geometry, geometry_of, view, image_of, write_byte, write_run}
 use Rattle.layout.specs.Header.{served_as}
 use Rattle.layout.proofs.Header.{served_whole}
@@ -85,7 +85,7 @@ module _ (g : Geometry) (d : Disk) where
         P o = o.disk ≡ d
 
 -- the sector written, on an image that is served as m
-module _ (m : Medium) (l : List ℕ) (w : served_as l ≡ As m) (k : ℕ) (b : List ℕ) (low : 1 ≤ k) (high : k ≤ 720) (size : length b ≡ (geometry_of m).size k) where
+module _ (m : Medium) (l : List ℕ) (w : served_as l ≡ Ok m) (k : ℕ) (b : List ℕ) (low : 1 ≤ k) (high : k ≤ 720) (size : length b ≡ (geometry_of m).size k) where
   abbrev g : Geometry
   g = geometry_of m
 

@@ -11,8 +11,7 @@ use borrow.Author.Tests.{eqb-true, not-true}
 use Rattle.layout.specs.declared.Channel.{Channel}
 use Rattle.layout.specs.declared.Table.{Table}
 use Rattle.layout.specs.declared.density.Medium.{Medium}
-use Rattle.layout.specs.declared.Served.{Served}
-use Rattle.layout.specs.declared.Served.TheVariants.{As, Not}
+use Rattle.std.specs.Prelude.{Result, Ok, Err}
 use Rattle.rules.specs.declared.Block.{Block}
 use Rattle.layout.specs.Basics.{check, member}
 use Rattle.layout.specs.Image.{Sector, Disk, Geometry, atr_single, atr_double, geometry_of, view, image_of}
@@ -31,7 +30,7 @@ use Rattle.rules.specs.Thin.{ImagePutOutcome, read_lent, thin_get, write_lent, t
 use Rattle.rules.specs.Demand1.{Unserved, Reasons}
 use Rattle.theory.proofs.Placed.{Placed, view_placed, placed_view}
 
-module _ (l : List ℕ) (m : Medium) (w : served_as l ≡ As m) where
+module _ (l : List ℕ) (m : Medium) (w : served_as l ≡ Ok m) where
   abbrev g : Geometry
   g = geometry_of m
 
@@ -74,10 +73,10 @@ module _ (l : List ℕ) (m : Medium) (w : served_as l ≡ As m) where
     pub held-view : view g held ≡ d
     held-view = rw (served_whole l m w).1 (placed_view g laws (view g l 0) d p)
 
-    pub held-served : served_as held ≡ As m
+    pub held-served : served_as held ≡ Ok m
     held-served = served_again l held m w (image_length g (length l) d) (λ j b. sym (view-header m held j b) ∙ ap (λ (r : Sector). r j) (ap (λ (e : Disk). e 0) held-view ∙ p.header) ∙ view-header m l j b)
 
-pub unserved : (l : List ℕ) (n : ℕ) → served_as l ≡ Not n → Unserved l n
+pub unserved : (l : List ℕ) (n : ℕ) → served_as l ≡ Err n → Unserved l n
 unfolding cio_call recover_call sector_call read_lent write_lent shows
 unserved l n w = record {
   calls = λ t c text b. ap (λ (o : ImageOutcome). o.answer.status) (served_not {A = ImageOutcome} _ _ _ w);
@@ -89,7 +88,7 @@ unserved l n w = record {
 }
 
 -- which images are not served
-clash : {A : Type 0} {m : Medium} {k : ℕ} → As m ≡ Not k → A
+clash : {A : Type 0} {m : Medium} {k : ℕ} → Ok m ≡ Err k → A
 clash e = absurd (let z : ◌≡◌ {A = ℕ} 0 1 = cc in omega arith)
 
 module _ (l : List ℕ) where
@@ -100,17 +99,17 @@ module _ (l : List ℕ) where
   abbrev Other : Type 0
   Other = member n (92160 ∷ 92176 ∷ 183952 ∷ []) ≡ false
 
-  other : served_as l ≡ Not bad_image → Other
+  other : served_as l ≡ Err bad_image → Other
   unfolding served_as served_atr member
   other = by_check P _ _ _ (λ _ e. clash e) λ a. by_check P _ _ _ (λ _. by_check P _ _ _ (λ _ e. swap e) λ _ e. clash e) λ b. by_check P _ _ _ (λ _. by_check P _ _ _ (λ _ e. swap e) λ _ e. clash e) λ c _. rw (a, b, c)
     where
-      P : Served → Type 0
-      P v = v ≡ Not bad_image → Other
+      P : Result Medium ℕ → Type 0
+      P v = v ≡ Err bad_image → Other
 
-      swap : Not bad_header ≡ Not bad_image → Other
+      swap : ◌≡◌ {A = Result Medium ℕ} (Err bad_header) (Err bad_image) → Other
       swap e = absurd (let z : ◌≡◌ {A = ℕ} 205 203 = cc in omega arith)
 
-  unknown : (a b c : Bool) → eqb n 92160 ≡ a → eqb n 92176 ≡ b → eqb n 183952 ≡ c → Other → served_as l ≡ Not bad_image
+  unknown : (a b c : Bool) → eqb n 92160 ≡ a → eqb n 92176 ≡ b → eqb n 183952 ≡ c → Other → served_as l ≡ Err bad_image
   unfolding served_as check member
   unknown true b c p q r e = absurd (true≢false (rw p at e))
   unknown false true c p q r e = absurd (true≢false (rw (p, q) at e))
@@ -121,7 +120,7 @@ module _ (l : List ℕ) where
   abbrev Wrong : Type 0
   Wrong = (m : Medium) × ((m ≡ atr_single) ⊎ (m ≡ atr_double)) × (n ≡ (geometry_of m).total) × (agrees m l ≡ false)
 
-  header : served_as l ≡ Not bad_header → Wrong
+  header : served_as l ≡ Err bad_header → Wrong
   unfolding served_as served_atr
   header = by_check P _ _ _ (λ _ e. clash e) λ _. by_check P _ _ _
       (λ q. by_check P _ _ _ (λ t _. (atr_single, inl refl, eqb-true n 92176 q, not-true (agrees atr_single l) t)) λ _ e. clash e)
@@ -129,20 +128,20 @@ module _ (l : List ℕ) where
       (λ q. by_check P _ _ _ (λ t _. (atr_double, inr refl, eqb-true n 183952 q, not-true (agrees atr_double l) t)) λ _ e. clash e)
       λ _ e. absurd (let z : ◌≡◌ {A = ℕ} 203 205 = cc in omega arith)
     where
-      P : Served → Type 0
-      P v = v ≡ Not bad_header → Wrong
+      P : Result Medium ℕ → Type 0
+      P v = v ≡ Err bad_header → Wrong
 
-  wrong : (m : Medium) → (m ≡ atr_single) ⊎ (m ≡ atr_double) → n ≡ (geometry_of m).total → agrees m l ≡ false → served_as l ≡ Not bad_header
+  wrong : (m : Medium) → (m ≡ atr_single) ⊎ (m ≡ atr_double) → n ≡ (geometry_of m).total → agrees m l ≡ false → served_as l ≡ Err bad_header
   unfolding served_as served_atr check
   wrong m (inl e) p q = let p' : n ≡ 92176 = rw e at p in let q' : agrees atr_single l ≡ false = rw e at q in rw (p', q')
   wrong m (inr e) p q = let p' : n ≡ 183952 = rw e at p in let q' : agrees atr_double l ≡ false = rw e at q in rw (p', q')
 
-  reasons : (k : ℕ) → served_as l ≡ Not k → (k ≡ bad_image) ⊎ (k ≡ bad_header)
+  reasons : (k : ℕ) → served_as l ≡ Err k → (k ≡ bad_image) ⊎ (k ≡ bad_header)
   unfolding served_as served_atr
   reasons k = by_check P _ _ _ (λ _ e. clash e) λ _. by_check P _ _ _ (λ _. by_check P _ _ _ (λ _ e. inr cc) λ _ e. clash e) λ _. by_check P _ _ _ (λ _. by_check P _ _ _ (λ _ e. inr cc) λ _ e. clash e) λ _ e. inl cc
     where
-      P : Served → Type 0
-      P v = v ≡ Not k → (k ≡ bad_image) ⊎ (k ≡ bad_header)
+      P : Result Medium ℕ → Type 0
+      P v = v ≡ Err k → (k ≡ bad_image) ⊎ (k ≡ bad_header)
 
   pub not_served_lem : Reasons l
   not_served_lem = record {
@@ -152,7 +151,7 @@ module _ (l : List ℕ) where
   }
 
   -- so its number is no other than 203 and 205
-  pub unserved-apart : (k : ℕ) → k ≢ bad_image → k ≢ bad_header → (n : ℕ) → served_as l ≡ Not n → n ≢ k
+  pub unserved-apart : (k : ℕ) → k ≢ bad_image → k ≢ bad_header → (n : ℕ) → served_as l ≡ Err n → n ≢ k
   unserved-apart k a b n w e = go (reasons n w)
     where
       go : (n ≡ bad_image) ⊎ (n ≡ bad_header) → ⊥

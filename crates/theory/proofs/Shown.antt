@@ -13,7 +13,7 @@ use borrow.Author.Tests.{ne_eqb, lt-ltb, le-leb}
 use Rattle.layout.specs.declared.State.TheVariants.{Reading}
 use Rattle.layout.specs.Basics.{values_from}
 use Rattle.layout.specs.declared.density.Medium.{Medium}
-use Rattle.layout.specs.declared.Served.TheVariants.{As}
+use Rattle.std.specs.Prelude.{Ok}
 use Rattle.layout.specs.Image.{Disk, Geometry, geometry_of, view}
 use Rattle.layout.specs.Header.{served_as}
 use Rattle.layout.proofs.Header.{served_whole}
@@ -121,7 +121,7 @@ take_values f (suc n) zero j h = absurd (omega arith)
 take_values f (suc n) (suc m) j h = ap (λ xs. f j ∷ xs) (take_values f n m (j + 1) (omega arith))
 
 -- an image served as m
-module _ (l : List ℕ) (m : Medium) (w : served_as l ≡ As m) where
+module _ (l : List ℕ) (m : Medium) (w : served_as l ≡ Ok m) where
   abbrev g : Geometry
   g = geometry_of m
 

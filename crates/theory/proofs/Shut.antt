@@ -7,8 +7,7 @@ use Prim.Native.Nat.{ℕ, ◌<◌}
 use borrow.Author.Tests.{eq-eqb, lt-ltb}
 use Rattle.layout.specs.declared.State.TheVariants.{Closed}
 use Rattle.rules.specs.declared.Command.TheVariants.{Close}
-use Rattle.layout.specs.declared.Found.{Found}
-use Rattle.layout.specs.declared.Found.TheVariants.{At, Nothing}
+use Rattle.std.specs.Prelude.{Option, Some, None}
 use Rattle.layout.specs.declared.Table.{Table}
 use Rattle.layout.specs.Image.{Disk, Geometry}
 use Rattle.layout.specs.Volume.{bit, is_set}
@@ -82,9 +81,9 @@ module _ (g : Geometry) (i s : ℕ) (z : i < 8) (w : ℕ → ℕ) (before r : Li
   close_stays (recovery_of protected x) e u = absurd e
 
 -- on a sound disk a standing slot with the name is the one found
-pub find_is : (g : Geometry) (d : Disk) (t : Table) → Sound g d t → (s : ℕ) (w : ℕ → ℕ) → Stands d s → same_name d s w ≡ true → find d w ≡ At s
+pub find_is : (g : Geometry) (d : Disk) (t : Table) → Sound g d t → (s : ℕ) (w : ℕ → ℕ) → Stands d s → same_name d s w ≡ true → find d w ≡ Some s
 find_is g d t a s w v n = go (find d w) refl
   where
-    go : (f : Found) → find d w ≡ f → f ≡ At s
-    go (At x) e = let (u, m) = find_at d w x e in ap At (a.apart x s u v (same_names d d x s w m n))
-    go Nothing e = absurd (find_none d w e s v n)
+    go : (f : Option ℕ) → find d w ≡ f → f ≡ Some s
+    go (Some x) e = let (u, m) = find_at d w x e in ap Some (a.apart x s u v (same_names d d x s w m n))
+    go None e = absurd (find_none d w e s v n)

@@ -11,10 +11,10 @@ use lib.Dec.{eqb, ltb}
 use lib.ListN.{length, get_or-append}
 use lib.Seq.{get_or_at}
 use borrow.Author.Tests.{eqb-true, eqb-false, ne_eqb, eq-eqb, lt-ltb, le-ltb, not-true}
-use Rattle.layout.specs.declared.Name.{Name}
-use Rattle.layout.specs.declared.Name.TheVariants.{Is}
+use Rattle.std.specs.Prelude.{Result, Ok}
+use Rattle.layout.specs.declared.FileName.{FileName}
 use Rattle.layout.specs.Basics.{if, check, first_from, all_below, values_from}
-use Rattle.layout.specs.Names.{char, capital_d, colon, point, blank, letter, digit, plain, ending, has_device, has_unit, body, not_plain, name_end, whole_end, well_formed, padded, as_word, name_byte, name_at, read_as, read_name, parsed, parse_name, follows, follows_point, legal}
+use Rattle.layout.specs.Names.{char, capital_d, colon, point, blank, letter, digit, plain, ending, has_device, has_unit, body, not_plain, name_end, whole_end, well_formed, padded, as_word, name_byte, name_at, read_as, read_name, parsed, parse_name, follows, follows_point, legal, file_name}
 use Rattle.layout.proofs.Logic.{and_left, and_right, or_cases, or_right}
 use Rattle.layout.proofs.Search.{first-least, first-most, first_passes, first-before, first_is, all_at}
 use Rattle.layout.proofs.Image.{values_length, values_at}
@@ -141,8 +141,8 @@ record Holds (w : ℕ → ℕ) (n m z : ℕ) (text : List ℕ) : Type 0 where
   last : char text (3 + n + (m - 8)) ≡ z
 
 -- the bytes as the two words of a name
-abbrev in_words : (ℕ → ℕ) → Name
-in_words w = Is (as_word w 8) (as_word (λ j. w (8 + j)) 3)
+abbrev in_words : (ℕ → ℕ) → Result FileName ℕ
+in_words w = Ok (file_name (as_word w 8) (as_word (λ j. w (8 + j)) 3))
 
 ending_plain : (x : ℕ) → ending x ≡ true → plain x ≡ false
 ending_plain x h = go (plain x) refl

@@ -12,7 +12,7 @@ use Rattle.layout.specs.declared.State.{State}
 use Rattle.layout.specs.declared.State.TheVariants.{Closed}
 use Rattle.layout.specs.declared.Table.{Table}
 use Rattle.layout.specs.declared.density.Medium.{Medium}
-use Rattle.layout.specs.declared.Served.TheVariants.{As, Not}
+use Rattle.std.specs.Prelude.{Ok, Err}
 use Rattle.rules.specs.declared.Block.{Block}
 use Rattle.rules.specs.declared.Form.{Form}
 use Rattle.rules.specs.declared.Form.TheVariants.{Characters, Record}
@@ -141,7 +141,7 @@ module _ (g : Geometry) (d : Disk) where
     close_transfer (drops s p h q) e = record { count = refl; disk = refl; table = refl; buffer = refl }
 
 -- on an image that is served: the image after it holds the disk after it
-module _ (l : List ℕ) (m : Medium) (w : served_as l ≡ As m) where
+module _ (l : List ℕ) (m : Medium) (w : served_as l ≡ Ok m) where
   abbrev g : Geometry
   g = geometry_of m
 
@@ -166,7 +166,7 @@ module _ (l : List ℕ) (m : Medium) (w : served_as l ≡ As m) where
 still : (l : List ℕ) (st : State) → OnlyEndOn st l l []
 still l st m w s p _ k _ _ _ _ = refl
 
-no_close : (l : List ℕ) (n : ℕ) → served_as l ≡ Not n → n ≢ bad_chain
+no_close : (l : List ℕ) (n : ℕ) → served_as l ≡ Err n → n ≢ bad_chain
 no_close l = unserved-apart l bad_chain (λ e. omega arith) (λ e. omega arith)
 
 pub transfers : Transfers

@@ -1,9 +1,8 @@
 -- Nobody has ever seen 161: no call on any image and table can answer it, document 02's request P8.
-use Rattle.std.specs.Prelude.{Bool, true, false, List, ◌≢◌, ◌≡◌, ℕ, ◌<◌}
+use Rattle.std.specs.Prelude.{Bool, true, false, List, ◌≢◌, ◌≡◌, ℕ, ◌<◌, Ok}
 use Rattle.layout.specs.declared.Table.{Table}
 use Rattle.layout.specs.declared.Channel.{Channel}
 use Rattle.layout.specs.declared.density.Medium.{Medium}
-use Rattle.layout.specs.declared.Served.TheVariants.{As}
 use Rattle.rules.specs.declared.Block.{Block}
 use Rattle.rules.specs.declared.FileCommand.{FileCommand}
 use Rattle.rules.specs.declared.Command.TheVariants.{Files}
@@ -30,7 +29,7 @@ pub record Never161 : Type 0 where
   -- with channel i below 8 closed, not all eight are open
   pub closed : (t : Table) (i : ℕ) → i < 8 → open_at t i ≡ false → all_below 8 (open_at t) ≡ false
   -- "open must name a channel, and with all eight open that one already answers 129"; so does every command that needs a closed channel
-  pub named : (l : List ℕ) (m : Medium) → served_as l ≡ As m → (t : Table) → all_below 8 (open_at t) ≡ true
+  pub named : (l : List ℕ) (m : Medium) → served_as l ≡ Ok m → (t : Table) → all_below 8 (open_at t) ≡ true
       → (c : Block) (k : FileCommand) → Asks c (Files k) → c.channel < 8 → (text b : List ℕ) → (cio_call l t c text b).answer.status ≡ channel_open
   -- "no call on any image and table can answer 161"
   pub never : EveryStatus (λ n. n ≢ 161)

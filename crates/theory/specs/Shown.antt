@@ -1,11 +1,10 @@
 -- What showing shows: the bytes that a get with sectors left delivers from that sector, as they lie in the image.
-use Rattle.std.specs.Prelude.{true, false, List, [], ◌≡◌, ℕ, suc, ◌+◌, ◌≤◌, ◌<◌, length, take}
+use Rattle.std.specs.Prelude.{true, false, List, [], ◌≡◌, ℕ, suc, ◌+◌, ◌≤◌, ◌<◌, length, take, Ok}
 use Rattle.layout.specs.declared.State.{State}
 use Rattle.layout.specs.declared.State.TheVariants.{Reading}
 use Rattle.layout.specs.declared.Channel.{Channel}
 use Rattle.layout.specs.Basics.{values_from}
 use Rattle.layout.specs.declared.density.Medium.{Medium}
-use Rattle.layout.specs.declared.Served.TheVariants.{As}
 use Rattle.layout.specs.Image.{Disk, Geometry, geometry_of, view}
 use Rattle.layout.specs.Header.{served_as}
 use Rattle.layout.specs.File.{in_use}
@@ -56,4 +55,4 @@ pub record Shown : Type 0 where
   -- where the answer is no it is empty, at the image's start; so it is on an image that is not served
   pub none : (l : List ℕ) (s k : ℕ) → shows l s k ≡ false → (shown_start l s k ≡ 0) × (shown_part l s k ≡ [])
   -- on one that is served as m
-  pub on : (l : List ℕ) (m : Medium) → served_as l ≡ As m → ShownOn (geometry_of m) l
+  pub on : (l : List ℕ) (m : Medium) → served_as l ≡ Ok m → ShownOn (geometry_of m) l

@@ -3,9 +3,8 @@ use mathlib.Core.List.{List, []}
 use mathlib.Core.Path.{◌≡◌, refl, sym, ap, ◌∙◌}
 use Prim.Native.Nat.{ℕ, ◌<◌}
 use Rattle.layout.specs.declared.Table.{Table}
-use Rattle.layout.specs.declared.Found.TheVariants.{Nothing}
-use Rattle.layout.specs.declared.Served.{Served}
-use Rattle.layout.specs.declared.Served.TheVariants.{As, Not}
+use Rattle.std.specs.Prelude.{None, Result, Ok, Err}
+use Rattle.layout.specs.declared.density.Medium.{Medium}
 use Rattle.layout.specs.Image.{geometry_of, view}
 use Rattle.layout.specs.Header.{served_as}
 use Rattle.layout.specs.Channels.{channel, state_of, with_state}
@@ -25,7 +24,7 @@ use Rattle.rules.proofs.Does.{does}
 
 -- what a call answers, with the image and the buffer after it
 abbrev tells : ℕ → ℕ → Table → List ℕ → List ℕ → List ℕ → ImageOutcome
-tells status n t l b ks = record { answer = record { status = status; count = n; table = t }; image = l; buffer = b; given = ks; took = Nothing }
+tells status n t l b ks = record { answer = record { status = status; count = n; table = t }; image = l; buffer = b; given = ks; took = None }
 
 module _ (l : List ℕ) (t : Table) where
   -- what a call that moves channel i does, of what a thin call on its record does
@@ -42,11 +41,11 @@ module _ (l : List ℕ) (t : Table) where
     unfolding cio_call command transfer get_at read_lent
     get_whole_lem {f = f} e = go (served_as l) refl
       where
-        go : (v : Served) → served_as l ≡ v → cio_call l t c text b ≡ get_whole c.channel (read_lent f l (channel (state_of t c.channel)) b)
-        go (Not status) q =
+        go : (v : Result Medium ℕ) → served_as l ≡ v → cio_call l t c text b ≡ get_whole c.channel (read_lent f l (channel (state_of t c.channel)) b)
+        go (Err status) q =
             served_not {A = ImageOutcome} _ _ _ q ∙ ap (λ u. tells status 0 u l b []) (sym (with_id t c.channel _ refl))
             ∙ ap (get_whole c.channel) (sym (served_not {A = GetOutcome} _ _ _ q))
-        go (As m) q =
+        go (Ok m) q =
             let g = geometry_of m in
             served_as_lem {A = ImageOutcome} _ _ _ q ∙ ap (leaves g l) (does g (view g l) t c text b (record { small = low; command = e }))
             ∙ rw (image-view g (lawful m (served_whole l m q).0) l) (ap (get_whole c.channel) (sym (served_as_lem {A = GetOutcome} _ _ _ q)))
@@ -55,11 +54,11 @@ module _ (l : List ℕ) (t : Table) where
     unfolding cio_call command transfer put_at write_lent
     put_whole_lem {f = f} e = go (served_as l) refl
       where
-        go : (v : Served) → served_as l ≡ v → cio_call l t c text b ≡ put_whole c.channel b (write_lent f l c.protected (channel (state_of t c.channel)) b)
-        go (Not status) q =
+        go : (v : Result Medium ℕ) → served_as l ≡ v → cio_call l t c text b ≡ put_whole c.channel b (write_lent f l c.protected (channel (state_of t c.channel)) b)
+        go (Err status) q =
             served_not {A = ImageOutcome} _ _ _ q ∙ ap (λ u. tells status 0 u l b []) (sym (with_id t c.channel _ refl))
             ∙ ap (put_whole c.channel b) (sym (served_not {A = ImagePutOutcome} _ _ _ q))
-        go (As m) q =
+        go (Ok m) q =
             let g = geometry_of m in
             served_as_lem {A = ImageOutcome} _ _ _ q ∙ ap (leaves g l) (does g (view g l) t c text b (record { small = low; command = e }))
             ∙ ap (put_whole c.channel b) (sym (served_as_lem {A = ImagePutOutcome} _ _ _ q))

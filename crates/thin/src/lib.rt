@@ -16,9 +16,8 @@ pub fn thin_get(image: &[u8], channel: &mut Channel, buffer: &mut [u8]) -> Reply
         × (channel.new ≡ channel_after (thin_get image.now channel.old buffer.old).answer)
         × (buffer.new ≡ (thin_get image.now channel.old buffer.old).buffer) }
 {
-    let before = *channel;
-    let read = read_on(image, before, buffer);
-    *channel = read.channel;
+    let read = read_on(image, *channel, buffer);
+    channel.state = read.state;
     Reply {
         status: read.status,
         count: read.count,
@@ -31,9 +30,8 @@ pub fn thin_put(image: &mut [u8], protected: bool, channel: &mut Channel, buffer
         × (channel.new ≡ channel_after (thin_put image.old protected channel.old buffer.now).answer)
         × (image.new ≡ (thin_put image.old protected channel.old buffer.now).image) }
 {
-    let before = *channel;
-    let written = write_on(image, protected, before, buffer);
-    *channel = written.channel;
+    let written = write_on(image, protected, *channel, buffer);
+    channel.state = written.state;
     Reply {
         status: written.status,
         count: written.count,

@@ -3,7 +3,7 @@ use mathlib.Core.Bool.{Bool, true, false, ◌&&◌, ◌||◌, and-true, and_comm
 use mathlib.Core.List.{List, [], ◌∷◌}
 use mathlib.Core.Logic.{◌≢◌}
 use mathlib.Core.Path.{◌≡◌, refl, sym, ap, ◌∙◌}
-use Prim.Native.Nat.{ℕ, ◌≤◌}
+use Prim.Native.Nat.{ℕ, suc, ◌+◌, ◌≤◌}
 use native.Mathlib.Omega.{arith}
 use lib.Dec.{eqb}
 use lib.ListN.{length, get_or, set}
@@ -31,10 +31,10 @@ pub five_set : (ws v : List ℕ) → length ws ≡ 5 → length v ≡ 5
     → set (set (set (set (set ws 0 (get_or v 0 0)) 1 (get_or v 1 0)) 2 (get_or v 2 0)) 3 (get_or v 3 0)) 4 (get_or v 4 0) ≡ v
 five_set ws v h k = rw (← five ws h) (five v k)
 
--- all eight, as the code joins them
-pub all_eight : (p : ℕ → Bool) → (p 7 && (p 6 && (p 5 && (p 4 && (p 3 && (p 2 && (p 1 && p 0))))))) ≡ all_below 8 p
+-- one number more
+pub all_more : (p : ℕ → Bool) (n : ℕ) (a b : Bool) → a ≡ all_below n p → b ≡ p n → (a && b) ≡ all_below (n + 1) p
 unfolding all_below
-all_eight p = rw (and-true (p 0))
+all_more p n a b e f = let s : n + 1 ≡ suc n = omega arith in rw (s, e, f) (and_comm (all_below n p) (p n))
 
 -- the words of a state are five, and say that state
 pub words_five : (st : State) → length (words_of st) ≡ 5

@@ -10,6 +10,7 @@ use lib.Dec.{eqb}
 use lib.ListN.{length, get_or, take, drop, length-append, length-drop}
 use lib.Seq.{length-take-le, take_all, drop-append-add, get_or-take, get_or-drop, drop-drop, take-add, ext_get_or, take_at}
 use borrow.Author.Tests.{eqb-true, eq-eqb}
+use borrow.Rule.Slice.PartMut.{put_mid}
 use Rattle.layout.specs.declared.State.{State}
 use Rattle.layout.specs.declared.State.TheVariants.{Closed}
 use Rattle.layout.specs.declared.Table.{Table}
@@ -25,6 +26,19 @@ use Rattle.words.proofs.Channels.{record_keeps, record_says, record_five, kind-a
 pub table_length : (ws : List ℕ) → is_table ws ≡ true → length ws ≡ 40
 unfolding is_table
 table_length ws e = eqb-true (length ws) 40 (and_left (eqb (length ws) 40) (all_below 8 (kind_in_force ws)) e)
+
+-- the words at a channel's place are its record, and those written there replace it
+module _ (ws : List ℕ) (c s t : ℕ) (e : (s ≡ 5 * c) × (t ≡ 5 * c + 5)) where
+  pub five-long : t - s ≡ 5
+  five-long = omega arith
+
+  pub record-at_place : take (t - s) (drop s ws) ≡ channel_at ws c
+  unfolding channel_at
+  record-at_place = rw (five-long, e.0)
+
+  pub with-at_place : (r : List ℕ) → put_mid s (t - s) ws r ≡ with_channel ws c r
+  unfolding with_channel
+  with-at_place r = rw (five-long, e.0)
 
 -- channel i of the table is what its record says
 channels_at : (ws : List ℕ) (n c i : ℕ) → i < n → get_or (channels_from ws n c) i (channel Closed) ≡ channel (state_in (channel_at ws (c + i)))

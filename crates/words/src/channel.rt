@@ -4,7 +4,7 @@ ghost use Rattle.words.specs.Words.{in_force, is_channel, state_in, channel_afte
 
 use layout::State;
 
-// The kinds; 0 is closed.
+// The kinds, by the numbers that C knows them by; 0 is closed.
 const READING: u16 = 1;
 
 const WRITING: u16 = 2;
@@ -20,36 +20,27 @@ pub fn in_force(kind: u16) -> bool
 pub fn is_channel(words: &[u16]) -> bool
     ensures { result ≡ is_channel words.now }
 {
-    if words.len() != 5 {
-        return false;
-    }
-    in_force(words[0])
+    words.len() == 5 && in_force(words[0])
 }
 
-// The state that the words say.
+// The state that the words say. No impl of `From`: it and `State` are both of other crates.
 pub fn state_in(words: &[u16]) -> State
     requires { length words.now ≡ 5 }
     ensures { result ≡ state_in words.now }
 {
-    let kind = words[0];
-    if kind == READING {
-        return State::Reading {
-            slot: words[1],
-            sector: words[2],
-            offset: words[3],
-            left: words[4],
-        };
+    match *words {
+        [READING, slot, sector, offset, left] => State::Reading {
+            slot,
+            sector,
+            offset,
+            left,
+        },
+        [WRITING, slot, last, ..] => State::Writing { slot, last },
+        _ => State::Closed,
     }
-    if kind == WRITING {
-        return State::Writing {
-            slot: words[1],
-            last: words[2],
-        };
-    }
-    State::Closed
 }
 
-// All five words written.
+// All five words written, one by one: as one copy they are a wide move, which has to wait for the five that are put together just before it.
 fn write_words(words: &mut [u16], five: [u16; 5])
     requires { length words.old ≡ 5 }
     ensures { words.new ≡ five }
@@ -62,14 +53,15 @@ fn write_words(words: &mut [u16], five: [u16; 5])
 }
 
 // The words after a call that leaves this state: where they say it already, all five stay as they were. A state that reads
-// uses every word, so its words are written without a comparison: where they say it already, they are the same five.
+// uses every word, so its words are written without a comparison: where they say it already, they are the same five. Inlined: three calls end in it.
+#[inline(always)]
 pub fn leave_state(words: &mut [u16], st: State)
     requires { length words.old ≡ 5 }
     ensures { words.new ≡ channel_after words.old st }
 {
     match st {
         State::Closed => {
-            if (words[0] == READING) | (words[0] == WRITING) {
+            if matches!(words[0], READING | WRITING) {
                 write_words(words, [0; 5]);
             }
         }
@@ -78,9 +70,7 @@ pub fn leave_state(words: &mut [u16], st: State)
             sector,
             offset,
             left,
-        } => {
-            write_words(words, [READING, slot, sector, offset, left]);
-        }
+        } => write_words(words, [READING, slot, sector, offset, left]),
         State::Writing { slot, last } => {
             let same = (words[0] == WRITING) & (words[1] == slot) & (words[2] == last);
             if !same {

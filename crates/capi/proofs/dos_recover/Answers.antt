@@ -1,7 +1,6 @@
-use mathlib.Core.Path.{ap, ◌∙◌}
+use mathlib.Core.Path.{ap}
 use native.Mathlib.Omega.{arith}
 use Rattle.rules.specs.declared.Reply.{Reply}
-use Rattle.words.specs.Result.{result_of}
 use Rattle.capi.specs.Leaves.{closed}
 use Rattle.capi.proofs.Few.{recover-few}
 use Rattle.capi.proofs.dos_recover.Goals as goal
@@ -10,8 +9,3 @@ pub pack-requires : goal.pack-requires
 pack-requires c =
     let args = c.args in
     let e = ap (λ (a : Reply). a.count) c.recover-recovered.ensures.0 in let h = recover-few args.image.now (closed args.notch) args.slot in omega arith
-
-pub returns : goal.returns
-returns c =
-    let recover = c.recover-recovered in
-    (c.pack.ensures ∙ ap (λ (a : Reply). result_of a.status a.count) recover.ensures.0, recover.ensures.1)

@@ -9,10 +9,10 @@ returns-then-not-is_channel c f b = not_record _ _ f b (sym c.is_channel.ensures
 pub state_in-requires : goal.state_in-requires
 state_in-requires c = record_length _ (sym c.is_channel.ensures ∙ c.if-not-is_channel.false)
 
-pub returns-in-As : goal.returns-in-As
-returns-in-As c f b =
-    served-closed _ _ f b (sym c.is_channel.ensures ∙ c.if-not-is_channel.false) (sym c.served_as-v.ensures.0 ∙ c.in-As.is) c.state_in.ensures c.protected_status.ensures ∙ ap (stays _ _ f b) (sym c.pack.ensures)
+pub returns-in-Ok : goal.returns-in-Ok
+returns-in-Ok c f b =
+    served-closed _ _ f b (sym c.is_channel.ensures ∙ c.if-not-is_channel.false) (sym c.served_as.ensures.0 ∙ c.in-Ok.is) c.state_in.ensures c.protected_status.ensures ∙ ap (stays _ _ f b) (sym c.pack.ensures)
 
-pub returns-in-Not : goal.returns-in-Not
-returns-in-Not c f b =
-    not_served_lem _ _ f b (sym c.is_channel.ensures ∙ c.if-not-is_channel.false) _ (sym c.served_as-v.ensures.0 ∙ c.in-Not.is) ∙ ap (stays _ _ f b) (sym c.pack-in-Not.ensures)
+pub returns-in-Err : goal.returns-in-Err
+returns-in-Err c f b =
+    not_served_lem _ _ f b (sym c.is_channel.ensures ∙ c.if-not-is_channel.false) _ (sym c.served_as.ensures.0 ∙ c.in-Err.is) ∙ ap (stays _ _ f b) (sym c.pack-in-Err.ensures)

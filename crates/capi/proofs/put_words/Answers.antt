@@ -1,4 +1,4 @@
-use mathlib.Core.Path.{sym, ap, ◌∙◌}
+use mathlib.Core.Path.{refl, sym, ap, ◌∙◌}
 use mathlib.Core.Bool.{not}
 use Rattle.layout.proofs.Check.{check_yes}
 use Rattle.layout.specs.Channels.{channel}
@@ -9,9 +9,7 @@ use Rattle.capi.proofs.put_words.Goals as goal
 
 pub returns-then-not-is_channel : goal.returns-then-not-is_channel
 unfolding write_leaves
-returns-then-not-is_channel c =
-    let e = check_yes {A = PutLeaves} _ _ _ (ap not (sym c.is_channel.ensures ∙ c.if-not-is_channel.true)) in
-    (ap (λ o. o.result) (sym e), ap (λ o. o.image) (sym e), ap (λ o. o.channel) (sym e))
+returns-then-not-is_channel c = rw (check_yes {A = PutLeaves} _ _ _ (ap not (sym c.is_channel.ensures ∙ c.if-not-is_channel.true))) (refl, refl, refl)
 
 pub state_in-requires : goal.state_in-requires
 state_in-requires c = record_length _ (sym c.is_channel.ensures ∙ c.if-not-is_channel.false)

@@ -1,34 +1,31 @@
-use mathlib.Core.Bool.{Bool, true}
-use mathlib.Core.List.{List}
-use mathlib.Core.Path.{◌≡◌, sym, ◌∙◌}
-use Prim.Native.Nat.{ℕ, ◌<◌}
 use native.Mathlib.Omega.{arith}
-use lib.ListN.{length}
-use Rattle.layout.specs.Names.{name_at, whole_end, well_formed}
-use Rattle.chars.specs.Ends.{ends_by}
-use Rattle.names.proofs.Formed.{formed_inside}
+use mathlib.Core.Bool.{true}
+use mathlib.Core.Path.{◌≡◌}
+use Rattle.layout.specs.Names.{char, letter, name_at}
+use Rattle.layout.proofs.Logic.{and_left}
+use Rattle.names.proofs.Inside.{name_inside, whole_inside, formed}
 use Rattle.names.proofs.name_at.Goals as goal
-
--- a name that is well formed ends inside of its text
-inside : (b : Bool) (text : List ℕ) (i : ℕ) {w : ℕ} {f : Bool} → w ≡ whole_end text i → f ≡ well_formed (ends_by b) text i → f ≡ true → w < length text
-inside b text i w f e = rw w (formed_inside b text i (sym f ∙ e))
 
 pub returns-then-not-well_formed : goal.returns-then-not-well_formed
 unfolding name_at
-returns-then-not-well_formed c = let f = c.well_formed-2 in rw (← f.ensures, c.if-not-well_formed.true) c.refused.ensures
+returns-then-not-well_formed g c = λ p t.
+    rw (formed c.args.text.now p c.args.i c.char.ensures c.letter.ensures c.whole_end-w.ensures.0 c.char-2.ensures (t _ _ (omega arith) c.ends.ensures) c.if-not-well_formed.true) c.refused.ensures
 
 pub name_word-requires : goal.name_word-requires
-name_word-requires c =
-    let a = c.args in
-    let h = inside a.by_comma a.text.now a.i c.whole_end-w.ensures.0 c.well_formed-2.ensures c.if-not-well_formed.false in
+name_word-requires g c =
+    let l = and_left c.letter.result c.ends.result c.if-not-well_formed.false in
+    let e : letter (char c.args.text.now c.args.i) ≡ true = cc in
+    let h = name_inside c.args.text.now c.args.i e in
     omega arith
 
 pub extension_word-requires : goal.extension_word-requires
-extension_word-requires c =
-    let a = c.args in
-    let h = inside a.by_comma a.text.now a.i c.whole_end-w.ensures.0 c.well_formed-2.ensures c.if-not-well_formed.false in
+extension_word-requires g c =
+    let l = and_left c.letter.result c.ends.result c.if-not-well_formed.false in
+    let e : letter (char c.args.text.now c.args.i) ≡ true = cc in
+    let h = whole_inside c.args.text.now c.args.i e in
     omega arith
 
 pub returns : goal.returns
 unfolding name_at
-returns c = let f = c.well_formed-2 in rw (← f.ensures, c.if-not-well_formed.false) (cc)
+returns g c = λ p t.
+    rw (formed c.args.text.now p c.args.i c.char.ensures c.letter.ensures c.whole_end-w.ensures.0 c.char-2.ensures (t _ _ (omega arith) c.ends.ensures) c.if-not-well_formed.false) (cc)

@@ -9,24 +9,24 @@ use Rattle.recovery.proofs.recover.Goals as goal
 pub returns-then-protected : goal.returns-then-protected
 unfolding recover_call recover
 returns-then-protected c =
-    let q = sym c.served_as-v.ensures.0 ∙ c.in-As.is in
+    let q = sym c.served_as.ensures.0 ∙ c.in-Ok.is in
     let e = served_as_lem {A = ImageRecovered} _ _ _ q in
     let d = check_yes {A = Recovered} _ _ _ c.if-protected.true in
     (c.reply.ensures ∙ ap (λ o. o.reply) (sym d) ∙ ap (λ o. o.reply) (sym e), image_of_lem _ (lawful _ (served_whole _ _ q).0) _ _ _ (search rules) (ap (λ o. o.disk) (sym d)) ∙ ap (λ o. o.image) (sym e))
 
 pub recover_slot-requires : goal.recover_slot-requires
-recover_slot-requires c = served_whole _ _ (sym c.served_as-v.ensures.0 ∙ c.in-As.is)
+recover_slot-requires c = served_whole _ _ (sym c.served_as.ensures.0 ∙ c.in-Ok.is)
 
 pub returns-else-protected : goal.returns-else-protected
 unfolding recover_call
 returns-else-protected c =
-    let q = sym c.served_as-v.ensures.0 ∙ c.in-As.is in
+    let q = sym c.served_as.ensures.0 ∙ c.in-Ok.is in
     let e = served_as_lem {A = ImageRecovered} _ _ _ q in
     let o = c.recover_slot.ensures in
     rw c.if-protected.false (o.0 ∙ ap (λ o. o.reply) (sym e), image_of_lem _ (lawful _ (served_whole _ _ q).0) _ _ _ (search rules) o.1 ∙ ap (λ o. o.image) (sym e))
 
-pub returns-in-Not : goal.returns-in-Not
+pub returns-in-Err : goal.returns-in-Err
 unfolding recover_call
-returns-in-Not c =
-    let e = served_not {A = ImageRecovered} _ _ _ (sym c.served_as-v.ensures.0 ∙ c.in-Not.is) in
-    (c.reply-in-Not.ensures ∙ ap (λ o. o.reply) (sym e), ap (λ o. o.image) (sym e))
+returns-in-Err c =
+    let e = served_not {A = ImageRecovered} _ _ _ (sym c.served_as.ensures.0 ∙ c.in-Err.is) in
+    (c.reply-in-Err.ensures ∙ ap (λ o. o.reply) (sym e), ap (λ o. o.image) (sym e))

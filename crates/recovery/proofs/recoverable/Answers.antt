@@ -1,11 +1,11 @@
+use native.Mathlib.Omega.{arith}
 use Rattle.rules.specs.Recovery.{recoverable}
-use borrow.Author.Tests.{lt-ltb, le-ltb}
 use Rattle.recovery.proofs.recoverable.Goals as goal
 
-pub returns-then-slot-ge64 : goal.returns-then-slot-ge64
+pub returns-then-deleted-clause-answer : goal.returns-then-deleted-clause-answer
 unfolding recoverable
-returns-then-slot-ge64 c = rw (le-ltb c.args.slot 64 c.if-slot-ge64.true)
+returns-then-deleted-clause-answer c = grind arith
 
-pub returns : goal.returns
+pub returns-else-deleted-clause-answer : goal.returns-else-deleted-clause-answer
 unfolding recoverable
-returns c = rw (lt-ltb c.args.slot 64 c.if-slot-ge64.false) (cc)
+returns-else-deleted-clause-answer c = grind arith

@@ -1,13 +1,8 @@
-use mathlib.Core.Path.{◌≡◌}
-use Prim.Native.Nat.{◌+◌, ◌*◌, ◌-◌}
-use native.Mathlib.Omega.{arith}
-use Rattle.words.specs.Words.{with_channel, channel_at}
+use Rattle.words.proofs.Tables.{record-at_place, with-at_place}
 use Rattle.capi.proofs.direct.get_direct.Goals as goal
 
 pub returns : goal.returns
-unfolding with_channel channel_at
 returns c =
-    let args = c.args in
-    let k : 5 * args.channel + 5 - 5 * args.channel ≡ 5 = omega arith in
-    let ensures = rw k at c.get_words.ensures in
-    (ensures.0, rw (k, ensures.1), ensures.2)
+    let p = c.place_of.ensures in
+    let o = rw (record-at_place _ _ _ _ p) at c.get_words.ensures in
+    (o.0, rw (with-at_place _ _ _ _ p, o.1), o.2)

@@ -1,12 +1,9 @@
 use mathlib.Core.Path.{◌≡◌}
-use Prim.Native.Nat.{◌≤◌, ◌-◌}
+use Prim.Native.Nat.{◌-◌}
 use Rattle.layout.specs.Basics.{first_from}
 use Rattle.layout.specs.Image.{geometry_of, view}
 use Rattle.layout.specs.Channels.{vacant}
 use Rattle.channels.proofs.slots.new_slot.Given as goal
 
 abbrev pub invariant-loop-s : goal.invariant-loop-s
-invariant-loop-s l = (l.s ≤ 64) × (first_from (vacant (view (geometry_of l.m) l.image) l.t) 64 0 ≡ first_from (vacant (view (geometry_of l.m) l.image) l.t) (64 - l.s) l.s)
-
-abbrev pub decreases-loop-s : goal.decreases-loop-s
-decreases-loop-s l = 64 - l.s
+invariant-loop-s l = first_from (vacant (view (geometry_of l.m) l.image) l.t) 64 0 ≡ first_from (vacant (view (geometry_of l.m) l.image) l.t) (64 - l.s) l.s

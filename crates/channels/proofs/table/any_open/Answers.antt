@@ -1,18 +1,14 @@
-use Rattle.layout.specs.Channels.{any_open}
-use Rattle.layout.specs.Basics.{any_below}
-use native.Mathlib.Numerals.{add-one}
-use native.Mathlib.Omega.{arith}
-use mathlib.Core.Path.{◌≡◌, refl}
+use Rattle.std.proofs.Common.{rules, Bool, false, ◌||◌, ◌∙◌, arith}
+use Rattle.std.proofs.lemmas.Iterator.{YieldsList-from_slice}
+use Rattle.std.proofs.lemmas.Iterator.Consumers.{fold_from_yields_List}
+use Rattle.layout.specs.declared.Channel.{Channel}
+use Rattle.layout.specs.Channels.{is_open, state_of, open_at, any_open}
+use Rattle.channels.proofs.Any.{any_folded, any_of}
 use Rattle.channels.proofs.table.any_open.Goals as goal
 
-pub loop-i-init : goal.loop-i-init
-unfolding any_below
-loop-i-init c = (omega arith, refl)
-
-pub loop-i-preserved : goal.loop-i-preserved
-unfolding any_below
-loop-i-preserved c = let w = c.loop-i in (omega arith, rw (add-one w.i, c.open_at-any.ensures, w.invariant.1))
-
 pub returns : goal.returns
-unfolding any_open
-returns c = let e : c.loop-i.i ≡ 8 = omega arith in rw e at c.loop-i.invariant.1
+unfolding any_open open_at state_of
+returns c =
+    let l = c.args.t.channels in
+    fold_from_yields_List _ (λ (b : Bool) (x : Channel). b || is_open x.state) false c.fold.result c.fold.ensures.ran (YieldsList-from_slice l cc) (λ b x r q k. search rules)
+    ∙ any_folded (λ x. is_open x.state) l false ∙ any_of (λ x. is_open x.state) l 8 (omega arith)

@@ -1,19 +1,15 @@
-use mathlib.Core.Path.{◌≡◌, sym, ◌∙◌}
-use native.Mathlib.Omega.{arith}
-use Rattle.layout.specs.Directory.{reached}
-use Rattle.layout.proofs.Search.{all_none, all_more, all_fails}
+use Rattle.std.proofs.Common.{rules, refl, ◌∙◌}
+use borrow.Author.Tests.{tests}
+use native.Mathlib.Nat.{sub-zero}
+use Rattle.std.proofs.lemmas.Iterator.{YieldsList-from_range}
+use Rattle.std.proofs.lemmas.Iterator.Search.{all_from_yields_List}
+use Rattle.layout.specs.Image.{geometry_of, view}
+use Rattle.layout.specs.Directory.{nonzero, reached}
+use Rattle.directory.proofs.Ranges.{all_range}
 use Rattle.directory.proofs.flags.reached.Goals as goal
-
-pub loop-s-init : goal.loop-s-init
-loop-s-init c = (omega arith, all_none _)
-
-pub returns-then-not-nonzero : goal.returns-then-not-nonzero
-unfolding reached
-returns-then-not-nonzero c = sym (all_fails _ _ _ c.loop-s-test.true (sym c.nonzero.ensures ∙ c.if-not-nonzero.true))
-
-pub loop-s-preserved : goal.loop-s-preserved
-loop-s-preserved c = (omega arith, all_more _ _ c.loop-s.invariant.1 (sym c.nonzero.ensures ∙ c.if-not-nonzero.false))
 
 pub returns : goal.returns
 unfolding reached
-returns c = let e : c.loop-s.s ≡ c.args.slot = omega arith in sym (rw e at c.loop-s.invariant.1)
+returns c = let a = c.args in
+    let p = nonzero (view (geometry_of a.m) a.image.now) in
+    all_from_yields_List p _ _ c.all.result c.all.ensures.ran (YieldsList-from_range 0 a.slot a.slot refl (sub-zero _)) (λ x b q k. search (rules, tests)) ∙ all_range p a.slot

@@ -1,12 +1,9 @@
 use mathlib.Core.Path.{◌≡◌}
-use Prim.Native.Nat.{◌+◌, ◌-◌, ◌≤◌, ◌<◌}
+use Prim.Native.Nat.{◌+◌, ◌-◌, ◌<◌}
 use Rattle.layout.specs.File.{clean_from}
 use Rattle.layout.specs.Image.{geometry_of, view}
 use Rattle.files.proofs.chain.clean_run.Given as goal
 
 abbrev pub invariant-loop-j : goal.invariant-loop-j
 invariant-loop-j l =
-    (l.j ≤ l.n) × (l.start + l.j < 65536) × (clean_from (geometry_of l.m) l.freed (view (geometry_of l.m) l.image) l.slot l.n l.start ≡ clean_from (geometry_of l.m) l.freed (view (geometry_of l.m) l.image) l.slot (l.n - l.j) (l.start + l.j))
-
-abbrev pub decreases-loop-j : goal.decreases-loop-j
-decreases-loop-j l = l.n - l.j
+    (l.start + l.j < 65536) × (clean_from (geometry_of l.m) l.freed (view (geometry_of l.m) l.image) l.slot l.n l.start ≡ clean_from (geometry_of l.m) l.freed (view (geometry_of l.m) l.image) l.slot (l.n - l.j) (l.start + l.j))

@@ -5,20 +5,17 @@ use mathlib.Core.Path.{refl}
 use Rattle.gets.proofs.get.get_here.Goals as goal
 
 pub get_run-requires : goal.get_run-requires
-get_run-requires c = let b = c.requires.3 in let z = (lawful _ c.requires.0.0).whole c.args.p.sector b.low in omega arith
+get_run-requires c = let b = c.requires.3 in let z = (lawful _ c.requires.0.0).whole c.args.r.place.sector b.low in omega arith
 
-pub returns-then-e-room : goal.returns-then-e-room
-returns-then-e-room c =
-    let least = c.least-run in
-    let some = least.ensures.2 (omega arith) (omega arith) in
-    let left = c.requires.3 in
-    (omega arith, gets-here _ _ _ left least.result (omega arith) (omega arith) _ c.get_run.ensures _ refl)
+pub returns-then-end-m : goal.returns-then-end-m
+returns-then-end-m c =
+    let run = c.min-run in
+    rw c.past-end.ensures (omega arith, gets-here _ _ _ c.requires.3 run.result (omega arith) (omega arith) _ c.get_run.ensures _ refl)
 
 pub returns : goal.returns
 returns c =
-    let least = c.least-run in
-    let some = least.ensures.2 (omega arith) (omega arith) in
-    let left = c.requires.3 in
-    let whole = c.get_whole-w.ensures.1 in
+    let run = c.min-run in
+    let end = rw c.past-end.ensures at c.if-end-m.false in
+    let whole = rw c.past-end.ensures at c.get_whole-w.ensures.1 in
     let more = whole.least in
-    (omega arith, comes_on (gets-here _ _ _ left least.result (omega arith) (omega arith) _ c.get_run.ensures _ c.if-e-room.false) (omega arith) whole)
+    rw (c.past-end.ensures, end) (omega arith, comes_on (gets-here _ _ _ c.requires.3 run.result (omega arith) (omega arith) _ c.get_run.ensures _ end) (omega arith) whole)

@@ -1,24 +1,15 @@
-use Rattle.gets.proofs.Getting.{comes_start, comes_all, comes_ended, comes_broken}
+use Rattle.gets.proofs.Getting.{comes_all, comes_ended, comes_broken}
 use Rattle.gets.proofs.Lining.{line_open, line-ended}
 use Rattle.gets.proofs.Seeking.{sought-left}
 use Rattle.layout.proofs.Image.{lawful}
 use native.Mathlib.Omega.{arith}
-use mathlib.Core.Path.{refl, sym, ◌∙◌, ap}
+use mathlib.Core.Path.{sym, ◌∙◌, ap}
 use Rattle.gets.proofs.line.line_from.Goals as goal
-
-pub loop-i-init : goal.loop-i-init
-loop-i-init c = (refl, comes_start _ _ _ (omega arith) c.requires.3)
-
-pub seek_line-s-requires : goal.seek_line-s-requires
-seek_line-s-requires c = (omega arith, omega arith, c.loop-i.invariant.1.entered)
-
-pub line_in-part-requires : goal.line_in-part-requires
-line_in-part-requires c = (omega arith, omega arith, (sought-left c.in-Ready.is c.seek_line-s.ensures.1))
 
 pub keep_run-requires : goal.keep_run-requires
 keep_run-requires c =
     let pre = c.requires in
-    let byte = (sought-left c.in-Ready.is c.seek_line-s.ensures.1) in
+    let byte = (sought-left c.in-Ready.is c.seek_next.ensures.1) in
     let size = (lawful _ pre.0.0).whole c.in-Ready.q.sector byte.low in
     let small = byte.small in
     let part = c.line_in-part.ensures in
@@ -26,54 +17,31 @@ keep_run-requires c =
     let same = c.loop-i.invariant.0 in
     (pre.0, byte.low, byte.high, omega arith, λ h. let room = pre.2 (omega arith) in omega arith)
 
-pub overflow_add-i : goal.overflow_add-i
-overflow_add-i c =
-    let part = c.line_in-part.ensures in omega arith
-
-pub past-requires : goal.past-requires
-past-requires c = (let regular = c.requires.0.0 in
-    let small = (sought-left c.in-Ready.is c.seek_line-s.ensures.1).small in
-    let within = c.line_in-part.ensures.1.within in omega arith)
-
-pub shape_of-buffer-then-part : goal.shape_of-buffer-then-part
-shape_of-buffer-then-part c =
-    let same = c.loop-i.invariant.0 in omega arith
-
 pub returns-then-part : goal.returns-then-part
 returns-then-part c =
     let inv = c.loop-i.invariant in
     let part = c.line_in-part.ensures in
-    let seek = sym c.seek_line-s.ensures.0.0 ∙ c.in-Ready.is in
-    let e = line-ended inv.1 (omega arith) _ seek (sought-left c.in-Ready.is c.seek_line-s.ensures.1) _ part.0 part.1 _ c.past.ensures _ c.keep_run.ensures c.if-part.true in
+    let seek = sym c.seek_next.ensures.0.0 ∙ c.in-Ready.is in
+    let e = line-ended inv.1 (omega arith) _ seek (sought-left c.in-Ready.is c.seek_next.ensures.1) _ part.0 part.1 _ c.past-p.ensures _ c.keep_run.ensures c.if-part.true in
     let told = ap (λ o. o.status) c.got.ensures in
     (c.got.ensures ∙ sym (ap (λ o. o.got) e), sym (ap (λ o. o.buffer) e), λ h. absurd (omega arith))
-
-pub past-p-requires : goal.past-p-requires
-past-p-requires c = (let regular = c.requires.0.0 in
-    let small = (sought-left c.in-Ready.is c.seek_line-s.ensures.1).small in
-    let within = c.line_in-part.ensures.1.within in omega arith)
-
-pub loop-i-smaller : goal.loop-i-smaller
-loop-i-smaller c =
-    let part = c.line_in-part.ensures in
-    let some = part.1.some in omega arith
 
 pub loop-i-preserved : goal.loop-i-preserved
 loop-i-preserved c =
     let inv = c.loop-i.invariant in
     let part = c.line_in-part.ensures in
-    let seek = sym c.seek_line-s.ensures.0.0 ∙ c.in-Ready.is in
-    (omega arith, line_open inv.1 (omega arith) _ seek (sought-left c.in-Ready.is c.seek_line-s.ensures.1) _ part.0 part.1 _ c.past-p.ensures _ c.keep_run.ensures c.if-part.false)
+    let seek = sym c.seek_next.ensures.0.0 ∙ c.in-Ready.is in
+    (omega arith, line_open inv.1 (omega arith) _ seek (sought-left c.in-Ready.is c.seek_next.ensures.1) _ part.0 part.1 _ c.past-p.ensures _ c.keep_run.ensures c.if-part.false)
 
 pub returns-in-Ended : goal.returns-in-Ended
 returns-in-Ended c =
-    let e = comes_ended c.loop-i.invariant.1 (omega arith) _ (sym c.seek_line-s.ensures.0.0 ∙ c.in-Ended.is) in
+    let e = comes_ended c.loop-i.invariant.1 (omega arith) _ (sym c.seek_next.ensures.0.0 ∙ c.in-Ended.is) in
     let told = ap (λ o. o.status) c.got-in-Ended.ensures in
     (c.got-in-Ended.ensures ∙ sym (ap (λ o. o.got) e), sym (ap (λ o. o.buffer) e), λ h. absurd (omega arith))
 
 pub returns-in-Broken : goal.returns-in-Broken
 returns-in-Broken c =
-    let e = comes_broken c.loop-i.invariant.1 (omega arith) _ (sym c.seek_line-s.ensures.0.0 ∙ c.in-Broken.is) in
+    let e = comes_broken c.loop-i.invariant.1 (omega arith) _ (sym c.seek_next.ensures.0.0 ∙ c.in-Broken.is) in
     let told = ap (λ o. o.status) c.got-in-Broken.ensures in
     (c.got-in-Broken.ensures ∙ sym (ap (λ o. o.got) e), sym (ap (λ o. o.buffer) e), λ h. absurd (omega arith))
 

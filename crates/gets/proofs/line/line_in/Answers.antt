@@ -14,14 +14,13 @@ overflow_sub-result c =
     let end = c.end_in-end in
     let least : c.args.p.offset ≤ end.result = rw end.ensures (first-least _ _ _) in omega arith
 
-pub returns-then-end-o : goal.returns-then-end-o
-returns-then-end-o c =
-    let run = c.least-run in
+pub returns-then-end-from : goal.returns-then-end-from
+returns-then-end-from c =
+    let run = c.min-run in
     let end = c.end_in-end in
-    (omega arith, in_ended _ _ _ run.result _ end.ensures (omega arith) c.if-end-o.true)
+    (omega arith, in_ended _ _ _ run.result _ end.ensures (omega arith) c.if-end-from.true)
 
 pub returns : goal.returns
 returns c =
-    let run = c.least-run in
-    let some = run.ensures.2 (omega arith) (omega arith) in
-    (omega arith, in_open _ _ _ run.result _ c.end_in-end.ensures (omega arith) some c.if-end-o.false)
+    let run = c.min-run in
+    (omega arith, in_open _ _ _ run.result _ c.end_in-end.ensures (omega arith) (omega arith) c.if-end-from.false)

@@ -2,8 +2,8 @@ use Rattle.layout.proofs.Image.{lawful, view_set}
 use native.Mathlib.Omega.{arith}
 use Rattle.image.proofs.bytes.write_byte.Goals as goal
 
-pub bounds-image-at : goal.bounds-image-at
-bounds-image-at c = let l = (lawful _ c.requires.0.0).least c.args.sector (omega arith) in omega arith
+pub bounds-image-start : goal.bounds-image-start
+bounds-image-start c = let l = (lawful _ c.requires.0.0).whole c.args.sector (omega arith) in omega arith
 
 pub returns : goal.returns
-returns c = let l = (lawful _ c.requires.0.0).least c.args.sector (omega arith) in rw c.start.ensures.0 (view_set _ (lawful _ c.requires.0.0) _ _ _ _ (omega arith) (omega arith))
+returns c = let l = (lawful _ c.requires.0.0).whole c.args.sector (omega arith) in rw c.start.ensures.0 (view_set _ (lawful _ c.requires.0.0) _ _ _ _ (omega arith) (omega arith))

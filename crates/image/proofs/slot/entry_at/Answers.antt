@@ -5,12 +5,12 @@ use lib.ListN.{get_or}
 use mathlib.Core.Path.{ap, sym, ◌∙◌}
 use Rattle.image.proofs.slot.entry_at.Goals as goal
 
-pub overflow_add-i : goal.overflow_add-i
-overflow_add-i c =
+pub overflow_add-result : goal.overflow_add-result
+overflow_add-result c =
     let w = slot-within _ c.requires.0.0 c.args.slot (omega arith) in omega arith
 
-pub bounds-image-i : goal.bounds-image-i
-bounds-image-i c =
+pub bounds-image-at : goal.bounds-image-at
+bounds-image-at c =
     let w = slot-within _ c.requires.0.0 c.args.slot (omega arith) in omega arith
 
 pub returns : goal.returns

@@ -1,4 +1,4 @@
-use Rattle.image.proofs.Places.{slot-within, slot_new, slot_same}
+use Rattle.image.proofs.Places.{slot-within, slot_new}
 use Prim.Native.Nat.{◌-◌}
 use native.Mathlib.Omega.{arith}
 use Rattle.image.proofs.slot.slot_after.Goals as goal
@@ -13,6 +13,3 @@ returns-then-slot-eq0 c = let e = slot_new c.args.m c.args.slot (omega arith) c.
 pub overflow_add-result-2 : goal.overflow_add-result-2
 overflow_add-result-2 c =
     let w = slot-within _ c.requires.0 (c.args.slot - 1) (omega arith) in omega arith
-
-pub returns : goal.returns
-returns c = let e = slot_same c.args.m c.args.slot (omega arith) (omega arith) in omega arith

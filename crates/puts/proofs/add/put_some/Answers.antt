@@ -1,16 +1,9 @@
-use Rattle.puts.proofs.Adding.{put_some, one_more}
+use Rattle.puts.proofs.Adding.{put_some}
 use Rattle.layout.specs.Image.{geometry_of, view}
 use Rattle.layout.proofs.Data.{data_facts}
-use lib.ListN.{length}
 use mathlib.Core.Path.{sym, ap, ◌∙◌}
 use native.Mathlib.Omega.{arith}
 use Rattle.puts.proofs.add.put_some.Goals as goal
-
-pub in_use-had-requires : goal.in_use-had-requires
-in_use-had-requires c = let q = data_facts _ c.requires.2 in omega arith
-
-pub add_run-requires : goal.add_run-requires
-add_run-requires c = let q = data_facts _ c.requires.2 in omega arith
 
 pub returns-then-had-n : goal.returns-then-had-n
 returns-then-had-n c =
@@ -18,9 +11,3 @@ returns-then-had-n c =
     let g = geometry_of c.args.m in
     let e = put_some g c.args.slot c.args.buffer.now (view g c.args.image.now) c.args.last (λ z. omega arith) (omega arith) in
     (c.added.ensures ∙ ap (λ o. o.added) (sym e), c.add_run.ensures ∙ ap (λ o. o.disk) (sym e))
-
-pub put_new-requires : goal.put_new-requires
-put_new-requires c =
-    let room = c.args.m.density.room in
-    let t = one_more c.in_use-had.result room (length c.args.buffer.now) room c.if-had-room.true in
-    (c.requires.0, c.requires.1, c.requires.2, c.requires.3, omega arith, omega arith, t.1)

@@ -1,11 +1,8 @@
 use mathlib.Core.Path.{◌≡◌}
-use Prim.Native.Nat.{◌+◌, ◌-◌, ◌≤◌}
+use Prim.Native.Nat.{◌+◌}
 use lib.ListN.{length, take, drop}
 use lib.Seq.{sets}
 use Rattle.runs.proofs.copy.copy_first.Given as goal
 
 abbrev pub invariant-loop-j : goal.invariant-loop-j
-invariant-loop-j l = (l.j ≤ l.n) × (length l.to ≡ length l.initial.to) × (sets l.initial.to l.at (take l.n l.from) ≡ sets l.to (l.at + l.j) (drop l.j (take l.n l.from)))
-
-abbrev pub decreases-loop-j : goal.decreases-loop-j
-decreases-loop-j l = l.n - l.j
+invariant-loop-j l = (length l.to ≡ length l.initial.to) × (sets l.initial.to l.at (take l.n l.from) ≡ sets l.to (l.at + l.j) (drop l.j (take l.n l.from)))

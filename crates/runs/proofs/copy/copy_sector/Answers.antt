@@ -1,6 +1,5 @@
 use mathlib.Core.Path.{ap, ◌∙◌}
 use lib.Seq.{sets, take_all}
-use lib.ListN.{length}
 use native.Mathlib.Omega.{arith}
 use Rattle.runs.proofs.copy.copy_sector.Goals as goal
 
@@ -13,8 +12,3 @@ pub returns-then-n-eq-DOUBLE_SIZE : goal.returns-then-n-eq-DOUBLE_SIZE
 returns-then-n-eq-DOUBLE_SIZE c =
     let a = c.args in
     c.copy_first-then-n-eq-DOUBLE_SIZE.ensures ∙ ap (sets a.to.now a.at) (take_all 256 a.from.now (omega arith))
-
-pub returns-else-n-eq-DOUBLE_SIZE : goal.returns-else-n-eq-DOUBLE_SIZE
-returns-else-n-eq-DOUBLE_SIZE c =
-    let a = c.args in
-    c.copy_first-else-n-eq-DOUBLE_SIZE.ensures ∙ ap (sets a.to.now a.at) (take_all (length a.from.now) a.from.now (omega arith))

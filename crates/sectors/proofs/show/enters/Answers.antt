@@ -1,11 +1,11 @@
+use native.Mathlib.Omega.{arith}
 use Rattle.rules.specs.Showing.{enters}
-use borrow.Author.Tests.{lt-ltb, le-ltb}
 use Rattle.sectors.proofs.show.enters.Goals as goal
 
-pub returns-then-slot-ge64 : goal.returns-then-slot-ge64
+pub returns-then-slot-lt64 : goal.returns-then-slot-lt64
 unfolding enters
-returns-then-slot-ge64 c = rw (le-ltb c.args.slot 64 c.if-slot-ge64.true)
+returns-then-slot-lt64 c = grind arith
 
-pub returns : goal.returns
+pub returns-else-slot-lt64 : goal.returns-else-slot-lt64
 unfolding enters
-returns c = rw (lt-ltb c.args.slot 64 c.if-slot-ge64.false) c.fits.ensures
+returns-else-slot-lt64 c = grind arith

@@ -1,20 +1,17 @@
 use Rattle.rules.specs.Thin.{read_lent}
 use Rattle.rules.specs.Get.{GetOutcome}
-use mathlib.Core.Path.{sym, ap, ◌∙◌}
-use Rattle.thin.specs.Moves.{moved}
+use mathlib.Core.Path.{refl, sym, ◌∙◌}
 use Rattle.layout.proofs.Check.{served_as_lem, served_not}
 use Rattle.layout.proofs.Header.{served_whole}
 use Rattle.thin.proofs.by_value.read_as.Goals as goal
 
-pub read_served-requires : goal.read_served-requires
-read_served-requires c = served_whole _ _ (sym c.served_as-v.ensures.0 ∙ c.in-As.is)
+pub get_as-requires : goal.get_as-requires
+get_as-requires c = served_whole _ _ (sym c.served_as.ensures.0 ∙ c.in-Ok.is)
 
-pub returns-in-As : goal.returns-in-As
+pub returns-in-Ok : goal.returns-in-Ok
 unfolding read_lent
-returns-in-As c = let e = served_as_lem {A = GetOutcome} _ _ _ (sym c.served_as-v.ensures.0 ∙ c.in-As.is) in
-    (c.read_served.ensures.0 ∙ ap (λ o. moved o.answer) (sym e), c.read_served.ensures.1 ∙ ap (λ o. o.buffer) (sym e))
+returns-in-Ok c = rw (served_as_lem {A = GetOutcome} _ _ _ (sym c.served_as.ensures.0 ∙ c.in-Ok.is)) c.get_as.ensures
 
-pub returns-in-Not : goal.returns-in-Not
+pub returns-in-Err : goal.returns-in-Err
 unfolding read_lent
-returns-in-Not c = let e = served_not {A = GetOutcome} _ _ _ (sym c.served_as-v.ensures.0 ∙ c.in-Not.is) in
-    (ap (λ o. moved o.answer) (sym e), ap (λ o. o.buffer) (sym e))
+returns-in-Err c = rw (served_not {A = GetOutcome} _ _ _ (sym c.served_as.ensures.0 ∙ c.in-Err.is)) (c.refused.ensures, refl)

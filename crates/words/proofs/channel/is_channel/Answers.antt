@@ -1,12 +1,11 @@
-use lib.ListN.{length}
-use borrow.Author.Tests.{eq-eqb, ne_eqb}
+use native.Mathlib.Omega.{arith}
 use Rattle.words.specs.Words.{is_channel}
 use Rattle.words.proofs.channel.is_channel.Goals as goal
 
-pub returns-then-words-ne5 : goal.returns-then-words-ne5
+pub returns-then-words-eq5 : goal.returns-then-words-eq5
 unfolding is_channel
-returns-then-words-ne5 c = rw (ne_eqb (length c.args.words.now) 5 c.if-words-ne5.true)
+returns-then-words-eq5 c = grind arith
 
-pub returns : goal.returns
+pub returns-else-words-eq5 : goal.returns-else-words-eq5
 unfolding is_channel
-returns c = rw (eq-eqb (length c.args.words.now) 5 c.if-words-ne5.false) c.in_force.ensures
+returns-else-words-eq5 c = grind arith

@@ -1,15 +1,9 @@
+use native.Mathlib.Omega.{arith}
 use mathlib.Core.Bool.{true, false}
 use mathlib.Core.Path.{sym, ◌∙◌}
 use Rattle.words.proofs.Channels.{after-closed, after-reading, after-writing}
 use Rattle.words.specs.Words.{words_of}
 use Rattle.words.proofs.channel.leave_state.Goals as goal
-
-pub returns-then-words : goal.returns-then-words
-unfolding words_of
-returns-then-words c = rw c.in-Closed.is (c.write_words.ensures ∙ sym (after-closed _ true c.if-words.true))
-
-pub returns-else-words : goal.returns-else-words
-returns-else-words c = rw c.in-Closed.is (sym (after-closed _ false c.if-words.false))
 
 pub returns-in-Reading : goal.returns-in-Reading
 unfolding words_of
@@ -21,3 +15,10 @@ returns-then-not-same c = rw c.in-Writing.is (c.write_words-then-not-same.ensure
 
 pub returns-else-not-same : goal.returns-else-not-same
 returns-else-not-same c = rw c.in-Writing.is (sym (after-writing _ _ _ true c.if-not-same.false))
+
+pub returns-then-matches : goal.returns-then-matches
+unfolding words_of
+returns-then-matches c = rw c.in-Closed.is (c.write_words.ensures ∙ sym (after-closed _ true (grind arith)))
+
+pub returns-else-matches : goal.returns-else-matches
+returns-else-matches c = rw c.in-Closed.is (sym (after-closed _ false (grind arith)))

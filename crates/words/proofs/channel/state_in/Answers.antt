@@ -1,20 +1,15 @@
-use lib.ListN.{get_or}
-use borrow.Author.Tests.{eq-eqb, ne_eqb}
+use native.Mathlib.Omega.{arith}
 use Rattle.words.specs.Words.{state_in}
 use Rattle.words.proofs.channel.state_in.Goals as goal
 
-pub returns-then-kind-eq-READING : goal.returns-then-kind-eq-READING
+pub returns-in-1 : goal.returns-in-1
 unfolding state_in
-returns-then-kind-eq-READING c = rw (eq-eqb (get_or c.args.words.now 0 0) 1 c.if-kind-eq-READING.true)
+returns-in-1 c = grind arith
 
-pub returns-then-kind-eq-WRITING : goal.returns-then-kind-eq-WRITING
+pub returns-in-2 : goal.returns-in-2
 unfolding state_in
-returns-then-kind-eq-WRITING c =
-    let args = c.args in
-    rw (ne_eqb (get_or args.words.now 0 0) 1 c.if-kind-eq-READING.false, eq-eqb (get_or args.words.now 0 0) 2 c.if-kind-eq-WRITING.true)
+returns-in-2 c = grind arith
 
-pub returns : goal.returns
+pub returns-in_default-2 : goal.returns-in_default-2
 unfolding state_in
-returns c =
-    let args = c.args in
-    rw (ne_eqb (get_or args.words.now 0 0) 1 c.if-kind-eq-READING.false, ne_eqb (get_or args.words.now 0 0) 2 c.if-kind-eq-WRITING.false)
+returns-in_default-2 c = grind arith

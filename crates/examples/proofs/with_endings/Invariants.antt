@@ -1,6 +1,0 @@
--- `with_endings` is safe and ends: each turn leaves one byte less.
-use Rattle.std.proofs.Common.{length, ◌-◌}
-use Rattle.examples.proofs.with_endings.Given as goal
-
-abbrev pub decreases-loop-i : goal.decreases-loop-i
-decreases-loop-i l = length l.script - l.i
