@@ -2,7 +2,8 @@
 use mathlib.Core.Bool.{true, false, not}
 use mathlib.Core.List.{List, []}
 use mathlib.Core.Path.{◌≡◌, refl, ap, ◌∙◌}
-use Prim.Native.Nat.{ℕ}
+use Prim.Native.Nat.{ℕ, ◌*◌}
+use lib.ListN.{drop, take-append-drop}
 use Rattle.layout.specs.declared.State.{State}
 use Rattle.layout.specs.declared.density.Medium.{Medium}
 use Rattle.std.specs.Prelude.{Ok, Err}
@@ -18,9 +19,14 @@ use Rattle.rules.specs.Put.{sent, put_keeps, put_on}
 use Rattle.rules.proofs.Sent.{none-reported}
 use Rattle.rules.specs.Thin.{ImagePutOutcome, write_lent}
 use Rattle.words.specs.Result.{result_of, malformed}
-use Rattle.words.specs.Words.{is_channel, state_in}
+use Rattle.words.specs.Words.{is_channel, state_in, channel_at, with_channel}
 use Rattle.words.proofs.Channels.{record_keeps}
 use Rattle.capi.specs.Leaves.{PutLeaves, put_words, write_leaves}
+
+-- a table with a record of its own in that record's place
+pub own_record : (ws : List ℕ) (c : ℕ) → with_channel ws c (channel_at ws c) ≡ ws
+unfolding with_channel channel_at
+own_record ws c = rw (take-append-drop 5 (drop (5 * c) ws)) (take-append-drop (5 * c) ws)
 
 module _ (l ws : List ℕ) (f : Form) (b : List ℕ) where
   -- this result, and all that was lent as it was

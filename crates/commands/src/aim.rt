@@ -34,11 +34,11 @@ pub fn find_target(m: Medium, image: &[u8], n: Result<FileName, Status>) -> Resu
     requires { Whole m image.now }
     ensures { TellsTarget (target (disk m image.now) n) result × InSlot result }
 {
-    let f = n?;
+    let wanted = n?;
     if !table_good(m, image) {
         return Err(Unfound::Denied(status::BAD_TABLE));
     }
-    find_file(m, image, Ok(f))
+    find_file(m, image, Ok(wanted))
 }
 
 // The file that a command is to change, by the name in its text.

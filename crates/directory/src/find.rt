@@ -11,15 +11,22 @@ use super::flags::standing_flag;
 use image::slot::{entry_at, slot_after, slot_start, write_entry};
 use layout::density::{Density, Medium};
 use names::name_byte;
-use runs::words::{slot_extension, slot_extension_at, slot_name, slot_name_at};
+use runs::words::{slot_extension, slot_last_four_at, slot_name, slot_name_at};
 
-// The slot that starts at `at` has the name.
+// The last four of a name's eleven bytes as one number, by its two words.
+fn last_four(name: u64, extension: u64) -> u64
+    ensures { result ≡ name / 72057594037927936 + extension % 16777216 * 256 }
+{
+    name / 72057594037927936 + extension % 16777216 * 256
+}
+
+// The slot that starts at `at` has the name: its eight bytes, and its last once more with the extension, so that each of the two is compared as it is loaded.
 fn same_name(m: Medium, image: &[u8], slot: u16, at: usize, name: u64, extension: u64) -> bool
     requires { Whole m image.now × (slot < 64) × (at ≡ (geometry_of m).start (361 + slot / 8) + slot % 8 * 16) }
     ensures { result ≡ same_name (disk m image.now) slot (name_byte name extension) }
 {
     (slot_name_at(m, image, slot, at) == name)
-        & (slot_extension_at(m, image, slot, at) == extension % 16777216)
+        & (slot_last_four_at(m, image, slot, at) == last_four(name, extension))
 }
 
 // The first standing slot with the name, slot `beside` left out. Most flags are neither zero nor deleted, so that is tested first. Where a slot starts is handed on.

@@ -60,7 +60,8 @@ fn letters() -> [u8; MOST]
     [b'X'; MOST]
 }
 
-// A put of n bytes on channel 0, which begin XYZ. More than the most are not put, and a status of 0 tells it.
+// A put of n bytes on channel 0, which begin XYZ. More than the most are not put, and a status of 0 tells it. Never inlined, so that its bytes take up the stack once, whoever calls it.
+#[inline(never)]
 pub fn put(image: &mut [u8], words: &mut [u16; 40], n: usize) -> Told {
     if MOST < n {
         return Told::from(0);

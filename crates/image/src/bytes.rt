@@ -1,4 +1,4 @@
-// Bytes of a sector, read and written. Only `byte_at` and `write_byte` here, and `entry_at` of slot.rt, look at the image itself.
+// Bytes of a sector, read and written. Only `byte_at` and `write_file_byte` here, and `entry_at` of slot.rt, look at the image itself.
 ghost use Rattle.std.specs.Prelude.{◌≡◌, ◌+◌, ◌-◌, ◌*◌, ◌≤◌, ◌<◌};
 ghost use Rattle.layout.specs.Image.{Regular, Whole, geometry_of, disk, write_byte, word, write_word};
 
@@ -20,8 +20,8 @@ pub fn byte_at(m: Medium, image: &[u8], sector: u16, at: usize, place: usize) ->
     image[at + place]
 }
 
-// One byte of a sector.
-pub fn byte(m: Medium, image: &[u8], sector: u16, place: usize) -> u8
+// One byte of a file sector, which has all of its places in use.
+pub fn file_byte(m: Medium, image: &[u8], sector: u16, place: usize) -> u8
     requires { Whole m image.now × (4 ≤ sector) × (sector ≤ 720) × (place < m.density.size) }
     ensures { result ≡ disk m image.now sector place }
 {
@@ -29,16 +29,32 @@ pub fn byte(m: Medium, image: &[u8], sector: u16, place: usize) -> u8
 }
 
 // It written.
-pub fn write_byte(m: Medium, image: &mut [u8], sector: u16, place: usize, value: u8)
+pub fn write_file_byte(m: Medium, image: &mut [u8], sector: u16, place: usize, value: u8)
     requires { Whole m image.old × (4 ≤ sector) × (sector ≤ 720) × (place < m.density.size) }
     ensures { disk m image.new ≡ write_byte (disk m image.old) sector place value }
 {
     image[start(m, sector) + place] = value;
 }
 
+// One byte of a sector's first 128, which are all that the volume table and the directory have.
+pub fn byte(m: Medium, image: &[u8], sector: u16, place: usize) -> u8
+    requires { Whole m image.now × (4 ≤ sector) × (sector ≤ 720) × (place < 128) }
+    ensures { result ≡ disk m image.now sector place }
+{
+    file_byte(m, image, sector, place)
+}
+
+// It written.
+pub fn write_byte(m: Medium, image: &mut [u8], sector: u16, place: usize, value: u8)
+    requires { Whole m image.old × (4 ≤ sector) × (sector ≤ 720) × (place < 128) }
+    ensures { disk m image.new ≡ write_byte (disk m image.old) sector place value }
+{
+    write_file_byte(m, image, sector, place, value);
+}
+
 // Two bytes, low byte first.
 pub fn word(m: Medium, image: &[u8], sector: u16, place: usize) -> u16
-    requires { Whole m image.now × (4 ≤ sector) × (sector ≤ 720) × (place + 1 < m.density.size) }
+    requires { Whole m image.now × (4 ≤ sector) × (sector ≤ 720) × (place < 127) }
     ensures { result ≡ word (disk m image.now sector) place }
 {
     let low = byte(m, image, sector, place);
@@ -49,7 +65,7 @@ pub fn word(m: Medium, image: &[u8], sector: u16, place: usize) -> u16
 // Two bytes written; a value's higher bits are dropped.
 #[tactic(auto, unfolding(layout::specs::Image::write_word))]
 pub fn write_word(m: Medium, image: &mut [u8], sector: u16, place: usize, value: u32)
-    requires { Whole m image.old × (4 ≤ sector) × (sector ≤ 720) × (place + 1 < m.density.size) }
+    requires { Whole m image.old × (4 ≤ sector) × (sector ≤ 720) × (place < 127) }
     ensures { disk m image.new ≡ write_word (disk m image.old) sector place value }
 {
     let [low, high, ..] = value.to_le_bytes();

@@ -3,7 +3,7 @@ ghost use Rattle.std.specs.Prelude.{◌≡◌, ◌+◌, ◌-◌, ◌*◌, ◌≤
 ghost use Rattle.layout.specs.Image.{Whole, geometry_of, disk};
 ghost use Rattle.layout.specs.File.{owner, next, in_use, write_link, write_in_use};
 
-use super::bytes::{byte, byte_at, start, write_byte};
+use super::bytes::{byte_at, file_byte, start, write_file_byte};
 use layout::density::{Density, Medium};
 
 // The first of them, upper six bits: the slot number.
@@ -11,7 +11,7 @@ pub fn owner(m: Medium, image: &[u8], sector: u16) -> u16
     requires { Whole m image.now × (4 ≤ sector) × (sector ≤ 720) }
     ensures { result ≡ owner (geometry_of m) (disk m image.now sector) }
 {
-    (byte(m, image, sector, m.density.room) / 4) as u16
+    (file_byte(m, image, sector, m.density.room) / 4) as u16
 }
 
 // The next sector: the lower two bits of the first, and the second.
@@ -19,8 +19,8 @@ pub fn next(m: Medium, image: &[u8], sector: u16) -> u16
     requires { Whole m image.now × (4 ≤ sector) × (sector ≤ 720) }
     ensures { result ≡ next (geometry_of m) (disk m image.now sector) }
 {
-    let high = byte(m, image, sector, m.density.room);
-    let low = byte(m, image, sector, m.density.room + Density::NEXT);
+    let high = file_byte(m, image, sector, m.density.room);
+    let low = file_byte(m, image, sector, m.density.room + Density::NEXT);
     u16::from_be_bytes([high % 4, low])
 }
 
@@ -57,8 +57,8 @@ pub fn write_link(m: Medium, image: &mut [u8], sector: u16, slot: u16, next: u16
     ensures { disk m image.new ≡ write_link (geometry_of m) (disk m image.old) sector slot next }
 {
     let [high, low] = (slot * 1024 + next).to_be_bytes();
-    write_byte(m, image, sector, m.density.room, high);
-    write_byte(m, image, sector, m.density.room + Density::NEXT, low);
+    write_file_byte(m, image, sector, m.density.room, high);
+    write_file_byte(m, image, sector, m.density.room + Density::NEXT, low);
 }
 
 // The bytes in use written.
@@ -67,5 +67,5 @@ pub fn write_in_use(m: Medium, image: &mut [u8], sector: u16, n: u8)
     requires { Whole m image.old × (4 ≤ sector) × (sector ≤ 720) }
     ensures { disk m image.new ≡ write_in_use (geometry_of m) (disk m image.old) sector n }
 {
-    write_byte(m, image, sector, m.density.room + Density::USED, n);
+    write_file_byte(m, image, sector, m.density.room + Density::USED, n);
 }

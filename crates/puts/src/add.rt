@@ -9,7 +9,7 @@ ghost use Rattle.puts.specs.Come.{Puts};
 ghost use Rattle.puts.specs.Searched.{Searched, HasRoom};
 
 use files::gives::give;
-use image::bytes::write_byte;
+use image::bytes::write_file_byte;
 use image::link::{in_use, write_in_use, write_link};
 use image::slot::{count, write_count};
 use layout::END_OF_LINE;
@@ -256,7 +256,7 @@ fn add_end(m: Medium, image: &mut [u8], sector: u16)
     ensures { disk m image.new ≡ add_byte (geometry_of m) (disk m image.old) sector end_of_line }
 {
     let n = in_use(m, image, sector) as usize;
-    write_byte(m, image, sector, n, END_OF_LINE);
+    write_file_byte(m, image, sector, n, END_OF_LINE);
     write_in_use(m, image, sector, (n + 1) as u8);
 }
 

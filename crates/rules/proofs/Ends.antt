@@ -243,6 +243,10 @@ module _ {g : Geometry} {d : Disk} {t : Table} {protected : Bool} {k : Kind} whe
       row w _ _ refl λ _.
       p
 
+-- a status leaves the disk
+pub status-disk : (g : Geometry) (d : Disk) (t : Table) (text : List ℕ) → (status_call g d t text).disk ≡ d
+status-disk g d t text = status-row {protected = false} {k = asks (Files Status)} {P = λ e. e.disk ≡ d} (record { refusing = λ _ _ _. refl }) text refl
+
 -- the answers of a command on a channel below 8
 pub answers_are : (c : Block) (k : Command) → On c k → answers c ≡ command_answers c.direction k
 unfolding answers

@@ -1,9 +1,9 @@
-// Eight bytes, or three, as one number.
+// Eight bytes, or three or four, as one number.
 ghost use Rattle.std.specs.Prelude.{◌≡◌, ◌+◌, ◌*◌, ◌/◌, ◌%◌, ◌≤◌, ◌<◌, length, get_or};
 ghost use Rattle.layout.specs.Image.{Whole, geometry_of, disk};
 ghost use Rattle.layout.specs.Directory.{name};
 ghost use Rattle.layout.specs.Names.{as_word};
-ghost use Rattle.runs.specs.Words.{bytes_from, map_from, extension};
+ghost use Rattle.runs.specs.Words.{bytes_from, map_from, extension, last_four};
 
 use image::bytes::start;
 use image::slot::slot_start;
@@ -36,6 +36,15 @@ fn word3(s: &[u8], i: usize) -> u64
     u64::from_le_bytes([s[i], s[i + 1], s[i + 2], 0, 0, 0, 0, 0])
 }
 
+// Four of them.
+#[tactic(auto, using(crate::proofs::Packed::packed_four))]
+fn word4(s: &[u8], i: usize) -> u64
+    requires { i + 4 ≤ length s.now }
+    ensures { result ≡ as_word (bytes_from s.now i) 4 }
+{
+    u64::from(u32::from_le_bytes([s[i], s[i + 1], s[i + 2], s[i + 3]]))
+}
+
 // The eight name bytes of the slot that starts at `at`.
 pub fn slot_name_at(m: Medium, image: &[u8], slot: u16, at: usize) -> u64
     requires { Whole m image.now × (slot < 64) × (at ≡ (geometry_of m).start (361 + slot / 8) + slot % 8 * 16) }
@@ -50,6 +59,14 @@ pub fn slot_extension_at(m: Medium, image: &[u8], slot: u16, at: usize) -> u64
     ensures { result ≡ as_word (extension (disk m image.now) slot) 3 }
 {
     word3(image, at + 13)
+}
+
+// The last of them with its extension: four bytes are one load, where three are two.
+pub fn slot_last_four_at(m: Medium, image: &[u8], slot: u16, at: usize) -> u64
+    requires { Whole m image.now × (slot < 64) × (at ≡ (geometry_of m).start (361 + slot / 8) + slot % 8 * 16) }
+    ensures { result ≡ as_word (last_four (disk m image.now) slot) 4 }
+{
+    word4(image, at + 12)
 }
 
 // The eight name bytes of a slot.

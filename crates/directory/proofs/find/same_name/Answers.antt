@@ -7,4 +7,4 @@ pub returns : goal.returns
 returns c =
     let a = c.args in
     let l = a.image.now in
-    rw (c.slot_name_at.ensures, c.slot_extension_at.ensures) (name-words (view (geometry_of a.m) l) (view-small _ l (λ i. (c.type_inv.image i).fits)) a.slot a.name a.extension c.ranges.name.fits)
+    rw (c.slot_name_at.ensures, c.slot_last_four_at.ensures, c.last_four.ensures) (name-words (view (geometry_of a.m) l) (view-small _ l (λ i. (c.type_inv.image i).fits)) a.slot a.name a.extension c.ranges.name.fits)
